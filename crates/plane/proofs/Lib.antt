@@ -1,0 +1,4 @@
+pub mod Products
+pub mod First
+pub mod Tests
+pub mod Through
