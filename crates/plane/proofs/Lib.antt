@@ -1,4 +1,10 @@
+pub mod Integers
+pub mod Lists
+pub mod Directions
+pub mod Clockwise
+pub mod TwoPosts
 pub mod Products
 pub mod First
 pub mod Tests
 pub mod Through
+pub mod StoredLine

@@ -4,3 +4,4 @@ pub mod Tests
 pub mod Lines
 pub mod Limits
 pub mod Shapes
+pub mod StoredLine
