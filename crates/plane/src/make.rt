@@ -54,4 +54,11 @@ impl Line {
             Err(Refusal::NoSuchShape)
         }
     }
+
+    // The numbers (a, b, c) together.
+    pub fn numbers(&self) -> (i32, i32, i32)
+        ensures { λ r. ⌜ r ≡ coefficients (now (self .entry)) ⌝ }
+    {
+        (self.a, self.b, self.c)
+    }
 }

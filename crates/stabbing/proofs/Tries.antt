@@ -43,39 +43,36 @@ module _ (t : Coefficients → Bool) where
   pub tries-more : (P : Point) (Ps Qs : List Point) → first t (tries (P ∷ Ps) Qs) ≡ orOther (first t (fan P Qs)) (first t (tries Ps Qs))
   tries-more P Ps Qs = first-append (fan P Qs) (tries Ps Qs)
 
-  -- whatever goes post by post goes crossing by crossing
-  module _ (G : List Point → Option Coefficients) (f : Point → Option Coefficients) (none : G [] ≡ None) (more : (Q : Point) (Qs : List Point) → G (Q ∷ Qs) ≡ orOther (f Q) (G Qs)) where
-    pub one-crossing : (q : Quad) → G (posts (q ∷ [])) ≡ orOther (f (left q)) (f (right q))
-    one-crossing q = more (left q) (right q ∷ []) ∙ ap (orOther (f (left q))) (more (right q) [] ∙ ap (orOther (f (right q))) none ∙ or-none (f (right q)))
+-- whatever goes post by post goes crossing by crossing
+pub record ByPost (G : List Point → Option Coefficients) (f : Point → Option Coefficients) : Type 0 where
+  pub none : G [] ≡ None
+  pub more : (Q : Point) (Qs : List Point) → G (Q ∷ Qs) ≡ orOther (f Q) (G Qs)
 
-    pub post-scans : Scans {X = Quad} (λ p. G (posts p))
-    post-scans = record {
-      none = none;
-      more = λ q p.
-        more (left q) (right q ∷ posts p)
-        ∙ ap (orOther (f (left q))) (more (right q) (posts p))
-        ∙ sym (or-assoc (f (left q)) (f (right q)) (G (posts p)))
-        ∙ ap (λ o. orOther o (G (posts p))) (sym (one-crossing q));
-    }
+module _ {G : List Point → Option Coefficients} {f : Point → Option Coefficients} (by : ByPost G f) where
+  one-crossing : (q : Quad) → G (posts (q ∷ [])) ≡ orOther (f (left q)) (f (right q))
+  one-crossing q =
+      by .more (left q) (right q ∷ []) ∙ ap (orOther (f (left q))) (by .more (right q) [] ∙ ap (orOther (f (right q))) (by .none) ∙ or-none (f (right q)))
 
-  pub fan-crossing : (P : Point) (q : Quad) → first t (fan P (posts (q ∷ []))) ≡ orOther (first t (fan P (left q ∷ []))) (first t (fan P (right q ∷ [])))
-  fan-crossing P = one-crossing (λ Qs. first t (fan P Qs)) (λ Q. first t (fan P (Q ∷ []))) refl (fan-more P)
+  -- the crossing's posts are L and R, and there was an answer at the first
+  pub at-left : (L : Point) (q : Quad) (l : Coefficients) → L ≡ left q → Some l ≡ f L → Some l ≡ G (posts (q ∷ []))
+  at-left L q l e h = ap (λ o. orOther o (f (right q))) (h ∙ ap f e) ∙ sym (one-crossing q)
 
-  -- the same, where the crossing's posts are known as other terms, and a line was found at the first or was not
-  pub fan-left : (P L : Point) (q : Quad) (l : Coefficients) → L ≡ left q → Some l ≡ first t (fan P (L ∷ [])) → Some l ≡ first t (fan P (posts (q ∷ [])))
-  fan-left P L q l e h = ap (λ o. orOther o (first t (fan P (right q ∷ [])))) (h ∙ ap (λ Q. first t (fan P (Q ∷ []))) e) ∙ sym (fan-crossing P q)
+  -- or there was none
+  pub at-right : (L R : Point) (q : Quad) (o : Option Coefficients) → L ≡ left q → R ≡ right q → None ≡ f L → o ≡ f R → o ≡ G (posts (q ∷ []))
+  at-right L R q o e e′ h k = k ∙ ap f e′ ∙ ap (λ m. orOther m (f (right q))) (h ∙ ap f e) ∙ sym (one-crossing q)
 
-  pub fan-right : (P L R : Point) (q : Quad) (o : Option Coefficients) → L ≡ left q → R ≡ right q → None ≡ first t (fan P (L ∷ [])) → o ≡ first t (fan P (R ∷ [])) → o ≡ first t (fan P (posts (q ∷ [])))
-  fan-right P L R q o e f h k =
-      k ∙ ap (λ Q. first t (fan P (Q ∷ []))) f
-      ∙ ap (λ m. orOther m (first t (fan P (right q ∷ [])))) (h ∙ ap (λ Q. first t (fan P (Q ∷ []))) e)
-      ∙ sym (fan-crossing P q)
+  pub post-scans : Scans {X = Quad} (λ p. G (posts p))
+  post-scans = record {
+    none = by .none;
+    more = λ q p.
+      by .more (left q) (right q ∷ posts p)
+      ∙ ap (orOther (f (left q))) (by .more (right q) (posts p))
+      ∙ sym (or-assoc (f (left q)) (f (right q)) (G (posts p)))
+      ∙ ap (λ o. orOther o (G (posts p))) (sym (one-crossing q));
+  }
 
-  pub tries-crossing : (Qs : List Point) (q : Quad) → first t (tries (posts (q ∷ [])) Qs) ≡ orOther (first t (fan (left q) Qs)) (first t (fan (right q) Qs))
-  tries-crossing Qs = one-crossing (λ Ps. first t (tries Ps Qs)) (λ P. first t (fan P Qs)) refl (λ P Ps. tries-more P Ps Qs)
+pub fan-by-post : (t : Coefficients → Bool) (P : Point) → ByPost (λ Qs. first t (fan P Qs)) (λ Q. first t (fan P (Q ∷ [])))
+fan-by-post t P = record { none = refl; more = fan-more t P }
 
-  pub fan-scans : (P : Point) → Scans {X = Quad} (λ p. first t (fan P (posts p)))
-  fan-scans P = post-scans (λ Qs. first t (fan P Qs)) (λ Q. first t (fan P (Q ∷ []))) refl (fan-more P)
-
-  pub tries-scans : (Qs : List Point) → Scans {X = Quad} (λ p. first t (tries (posts p) Qs))
-  tries-scans Qs = post-scans (λ Ps. first t (tries Ps Qs)) (λ P. first t (fan P Qs)) refl (λ P Ps. tries-more P Ps Qs)
+pub tries-by-post : (t : Coefficients → Bool) (Qs : List Point) → ByPost (λ Ps. first t (tries Ps Qs)) (λ P. first t (fan P Qs))
+tries-by-post t Qs = record { none = refl; more = λ P Ps. tries-more t P Ps Qs }

@@ -2,13 +2,15 @@
 ghost use mathlib.Core.Path.{_≡_};
 ghost use mathlib.Core.List.{[], _∷_};
 ghost use Rattle.std.specs.Options.{isSome, mapped};
+ghost use Rattle.std.specs.Orderings.{Decides};
 ghost use Rattle.std.specs.shelf.Lists.{All};
 ghost use Rattle.plane.specs.First.{first};
-ghost use Rattle.plane.specs.Limits.{Crosses};
+ghost use Rattle.plane.specs.Limits.{Crosses, Path};
 ghost use Rattle.plane.specs.Lines.{posts};
+ghost use Rattle.plane.specs.Separation.{Stabbed};
 ghost use Rattle.plane.specs.Shapes.{coefficients, place};
 ghost use Rattle.plane.specs.Tests.{separates};
-ghost use Rattle.stabbing.specs.Exact.{exact-line, fan, first-line};
+ghost use Rattle.stabbing.specs.Exact.{exact-line, fan, first-line, tries};
 use crate::stabber::Sharp;
 use crate::stabber::Stabber;
 use plane::line::Line;
@@ -49,4 +51,70 @@ fn from_post(p: Post, path: &[Quad]) -> Option<Line>
         }
     }
     None
+}
+
+// The first line from a post of the crossing to a post of the path that separates the path.
+fn from_crossing(near: &Quad, path: &[Quad]) -> Option<Line>
+    requires { ⌜ Crosses (now near) ⌝ ∗ ⌜ All Crosses (now path) ⌝ }
+    ensures { λ r. ⌜ mapped coefficients r ≡ first (λ l. separates l (now (path .entry))) (tries (posts (now (near .entry) ∷ [])) (posts (now (path .entry)))) ⌝ }
+{
+    let Ok(from) = near.crossing() else {
+        return None;
+    };
+    match from_post(from.left, path) {
+        Some(line) => Some(line),
+        None => from_post(from.right, path),
+    }
+}
+
+// The first line through two posts of the path that separates it.
+fn of_posts(path: &[Quad]) -> Option<Line>
+    requires { ⌜ All Crosses (now path) ⌝ }
+    ensures { λ r. ⌜ mapped coefficients r ≡ first-line (now (path .entry)) ⌝ }
+{
+    for near in path {
+        if let Some(line) = from_crossing(near, path) {
+            return Some(line);
+        }
+    }
+    None
+}
+
+// The first such line; the empty path has (0, 1, 0), and a list that is no path has none.
+pub fn exact_line(path: &[Quad]) -> Option<Line>
+    ensures value { λ r. ⌜ mapped coefficients r ≡ exact-line (now (path .entry)) ⌝ }
+    ensures test { λ r. ⌜ Decides (isSome r) (Path (now (path .entry)) × Stabbed (now (path .entry))) ⌝ }
+{
+    if !is_path(path) {
+        return None;
+    }
+    if path.is_empty() {
+        return Some(Line { a: 0, b: 1, c: 0 });
+    }
+    of_posts(path)
+}
+
+// Lets through the paths that some line separates, and answers the first line through two of their posts.
+#[derive(Clone, Copy, Debug)]
+pub struct Exact {}
+
+pub impl Stabber for Exact as ExactStabber {
+    ghost lets = { λ _ p. isSome (exact-line p) };
+
+    ghost asked = { λ s _. s };
+
+    fn lets_through(&mut self, path: &[Quad]) -> bool {
+        exact_line(path).is_some()
+    }
+}
+
+pub impl Sharp for Exact as ExactSharp {
+    ghost line = { λ _ p. exact-line p };
+
+    ghost lined = { λ s _. s };
+
+    fn stabbing_line(&mut self, path: &[Quad]) -> Option<(i32, i32, i32)> {
+        let line = exact_line(path)?;
+        Some(line.numbers())
+    }
 }

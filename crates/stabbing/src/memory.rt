@@ -23,7 +23,7 @@ fn recall(held: Option<Line>, path: &[Quad]) -> Option<(i32, i32, i32)>
 {
     let line = held?;
     if is_path(path) && line.separates(path) {
-        Some((line.a, line.b, line.c))
+        Some(line.numbers())
     } else {
         None
     }
