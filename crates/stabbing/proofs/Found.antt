@@ -7,13 +7,12 @@ use native.Mathlib.Nat.{le-of-suc-le-suc}
 use native.Mathlib.Omega.{arith}
 use lib.IntN.{pos}
 use lib.ListN.{length, getD}
-use Rattle.std.specs.Options.{isSome, mapped, orOther}
+use Rattle.std.specs.Options.{isSome, mapped}
 use Rattle.std.specs.Orderings.{Decides}
 use Rattle.std.specs.declared.option.Option.{Option}
 use Rattle.std.specs.declared.option.Option.the-variants.{Some, None}
 use Rattle.std.specs.shelf.Lists.{All, Has}
 use Rattle.std.proofs.shelf.Elements.{all-weaker}
-use Rattle.std.proofs.shelf.Tests.{false≢true}
 use Rattle.std.proofs.shelf.Ways.{decides-at}
 use Rattle.plane.specs.declared.quad.Quad.{Quad}
 use Rattle.plane.specs.First.{first}
@@ -24,21 +23,14 @@ use Rattle.plane.specs.Tests.{is-path, same-point, separates}
 use Rattle.plane.proofs.Tests.{is-path-decides, same-point-decides, separates-decides}
 use Rattle.plane.proofs.TwoPosts.{two-posts}
 use Rattle.stabbing.specs.Exact.{exact-line, fan, first-line, line-through, tries}
+use Rattle.stabbing.proofs.Answers.{not-some, some-left, some-mapped, some-right, some-value, under}
 use Rattle.stabbing.proofs.Fronts.{path-front, stabbed-front}
 use Rattle.stabbing.proofs.Limited.{posts-limited, tries-limited}
 use Rattle.stabbing.proofs.Tries.{fan-more, tries-more}
 
-some-left : {X : Type 0} (a b : Option X) → isSome a ≡ true → isSome (orOther a b) ≡ true
-some-left None b h = absurd (false≢true h)
-some-left (Some x) b h = refl
-
-some-right : {X : Type 0} (a b : Option X) → isSome b ≡ true → isSome (orOther a b) ≡ true
-some-right None b h = h
-some-right (Some x) b h = refl
-
 -- what the first that passes is
 first-is : {X : Type 0} (t : X → Bool) (P : X → Type 0) (xs : List X) (x : X) → All P xs → first t xs ≡ Some x → P x × (t x ≡ true)
-first-is t P [] x h e = absurd (let z : _≡_ {A = ℕ} 0 1 = cc in omega arith)
+first-is t P [] x h e = not-some x e
 first-is t P (y ∷ ys) x (h, hs) e =
     elim (t y) as (λ b. t y ≡ b → cond b (Some y) (first t ys) ≡ Some x → P x × (t x ≡ true)) [
       true ↦ λ f k. let same : y ≡ x = cc in (subst P same h, ap t (sym same) ∙ f)
@@ -59,11 +51,6 @@ module _ (t : Coefficients → Bool) where
   tries-has P (R ∷ Rs) Qs zero h e f = ap isSome (tries-more t R Rs Qs) ∙ some-left (first t (fan R Qs)) (first t (tries Rs Qs)) (ap (λ S. isSome (first t (fan S Qs))) e ∙ f)
   tries-has P (R ∷ Rs) Qs (suc k) h e f = ap isSome (tries-more t R Rs Qs) ∙ some-right (first t (fan R Qs)) (first t (tries Rs Qs)) (tries-has P Rs Qs k (le-of-suc-le-suc h) e f)
 
--- an answer is given to paths only
-answered : {X : Type 0} (b : Bool) (o : Option X) (x : X) → cond b o None ≡ Some x → (b ≡ true) × (o ≡ Some x)
-answered true o x e = (refl, e)
-answered false o x e = absurd (let z : _≡_ {A = ℕ} 0 1 = cc in omega arith)
-
 line-through-is : (p : List Quad) (l : Coefficients) → All Crosses p → line-through p ≡ Some l → Proper l × InLimits l × Separates l p
 unfolding first-line
 line-through-is [] l h e =
@@ -80,7 +67,7 @@ line-through-is (q ∷ p) l h e =
 pub exact-is : (p : List Quad) (l : Coefficients) → exact-line p ≡ Some l → Path p × Proper l × InLimits l × Separates l p
 unfolding exact-line
 exact-is p l e =
-    let yes = answered (is-path p) (line-through p) l e in
+    let yes = under (is-path p) (line-through p) l e in
     let path = is-path-decides p .0 (yes .0) in
     let is = line-through-is p l (path .1) (yes .1) in
     (path, is .0, is .1, is .2)
@@ -107,11 +94,6 @@ pub exact-has : (p : List Quad) → Path p → Stabbed p → isSome (exact-line 
 unfolding exact-line
 exact-has p path s = ap (λ b. isSome (cond b (line-through p) None)) (is-path-decides p .1 path) ∙ line-through-has p (path .1) s
 
--- a value that is there
-some-value : {X : Type 0} (o : Option X) → isSome o ≡ true → (x : X) × (o ≡ Some x)
-some-value None e = absurd (false≢true e)
-some-value (Some x) e = (x, refl)
-
 -- Exact's set: the paths with a separating line
 pub exact-decides : (p : List Quad) → Decides (isSome (exact-line p)) (Path p × Stabbed p)
 exact-decides p = (
@@ -121,10 +103,6 @@ exact-decides p = (
 
 pub exact-front : (p r : List Quad) → isSome (exact-line (p ++ r)) ≡ true → isSome (exact-line p) ≡ true
 exact-front p r e = let h = exact-decides (p ++ r) .0 e in exact-has p (path-front p r (h .0)) (stabbed-front p r (h .1))
-
-some-mapped : {X Y : Type 0} (f : X → Y) (o : Option X) → isSome o ≡ isSome (mapped f o)
-some-mapped f None = refl
-some-mapped f (Some x) = refl
 
 -- an answer that is Exact's decides as Exact does
 pub decides-as-exact : {X : Type 0} (f : X → Coefficients) (o : Option X) (p : List Quad) → mapped f o ≡ exact-line p → Decides (isSome o) (Path p × Stabbed p)

@@ -3,3 +3,4 @@ pub mod both;
 pub mod exact;
 pub mod memory;
 pub mod stabber;
+pub mod wedge;
