@@ -6,3 +6,4 @@ pub mod Fronts
 pub mod Found
 pub mod Recall
 pub mod Threes
+pub mod Unstabbed

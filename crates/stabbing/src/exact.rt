@@ -6,11 +6,11 @@ ghost use Rattle.std.specs.Orderings.{Decides};
 ghost use Rattle.std.specs.shelf.Lists.{All};
 ghost use Rattle.plane.specs.First.{first};
 ghost use Rattle.plane.specs.Limits.{Crosses, Path};
-ghost use Rattle.plane.specs.Lines.{posts};
+ghost use Rattle.plane.specs.Lines.{Two-posts, posts};
 ghost use Rattle.plane.specs.Separation.{Stabbed};
 ghost use Rattle.plane.specs.Shapes.{coefficients, place};
 ghost use Rattle.plane.specs.Tests.{separates};
-ghost use Rattle.stabbing.specs.Exact.{exact-line, fan, first-line, tries};
+ghost use Rattle.stabbing.specs.Exact.{Some-unstabbed, exact-line, fan, first-line, tries};
 use crate::stabber::Sharp;
 use crate::stabber::Stabber;
 use plane::line::Line;
@@ -80,10 +80,13 @@ fn of_posts(path: &[Quad]) -> Option<Line>
     None
 }
 
-// The first such line; the empty path has (0, 1, 0), and a list that is no path has none.
+// The first line through two posts that separates the path; the empty path has (0, 1, 0), and a list that is no path
+// has none. So there is a line exactly for the paths that any line separates, and some paths have none.
 pub fn exact_line(path: &[Quad]) -> Option<Line>
     ensures value { λ r. ⌜ mapped coefficients r ≡ exact-line (now (path .entry)) ⌝ }
     ensures test { λ r. ⌜ Decides (isSome r) (Path (now (path .entry)) × Stabbed (now (path .entry))) ⌝ }
+    ensures posts { λ _. ⌜ Two-posts ⌝ }
+    ensures some { λ _. ⌜ Some-unstabbed ⌝ }
 {
     if !is_path(path) {
         return None;
