@@ -44,6 +44,16 @@ impl Crossing {
             ry: self.right.y,
         }
     }
+
+    // The crossing as walked the other way: the posts change sides.
+    pub fn turned(&self) -> Crossing
+        ensures { λ r. ⌜ (r .left ≡ now (self .entry) .right) × (r .right ≡ now (self .entry) .left) ⌝ }
+    {
+        Crossing {
+            left: self.right,
+            right: self.left,
+        }
+    }
 }
 
 // Whether a list is a path: at most 511 elements, each a crossing.
