@@ -78,6 +78,9 @@ impl Line {
         ensures value { λ r. ⌜ r ≡ separates (coefficients (now (self .entry))) (now (path .entry)) ⌝ }
         ensures test { λ r. ⌜ Decides r (Separates (coefficients (now (self .entry))) (now (path .entry))) ⌝ }
     {
-        first_wrong(self, path).is_none()
+        match first_wrong(self, path) {
+            None => true,
+            Some(_) => false,
+        }
     }
 }

@@ -1,5 +1,6 @@
 use mathlib.Core.Path.{refl, subst}
 use mathlib.Core.Bool.{true, false}
+use native.Mathlib.Omega.{arith}
 use lib.Seq.{take-all}
 use Rattle.std.specs.Orderings.{Decides}
 use Rattle.std.specs.shelf.Lists.{All}
@@ -28,5 +29,5 @@ pub returns : need.returns
 returns c =
     let list = c .args .list .now in
     let all : All Crosses list = subst (All Crosses) (take-all _ list (c .loop-quad-test .left)) (c .loop-quad .inv) in
-    let test : Decides true (Path list) = (λ _. (c .if-list-gt511 .left, all), λ _. refl) in
+    let test : Decides true (Path list) = (λ _. (omega arith, all), λ _. refl) in
     record { value = same-from-decides true (is-path list) test (is-path-decides list); test = test }

@@ -13,9 +13,16 @@ not-same true false e = sym e
 not-same false true e = sym e
 not-same false false e = refl
 
-pub returns : need.returns
-returns c =
+pub returns-in-None : need.returns-in-None
+returns-in-None c =
     let l = coefficients (c .args .self .now) in
     let p = c .args .path .now in
-    let same : c .is-none .result ≡ separates l p = not-same _ _ (sym (c .is-none .ensures) ∙ ap isSome (c .first-wrong .ensures) ∙ wrong-somewhere l p) in
+    let same : true ≡ separates l p = not-same _ _ (ap isSome (c .in-None .ensures tt) ∙ wrong-somewhere l p) in
+    record { value = same; test = decides-at _ _ same (separates-decides l p) }
+
+pub returns-in-Some : need.returns-in-Some
+returns-in-Some c =
+    let l = coefficients (c .args .self .now) in
+    let p = c .args .path .now in
+    let same : false ≡ separates l p = not-same _ _ (ap isSome (c .in-Some .ensures tt) ∙ wrong-somewhere l p) in
     record { value = same; test = decides-at _ _ same (separates-decides l p) }
