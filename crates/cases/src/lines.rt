@@ -46,7 +46,13 @@ fn no_line() -> Result<(), Fail> {
 // Through the mess and out at its far end: each three doorways have a line, the five have none.
 #[test]
 fn wedge_is_wider() -> Result<(), Fail> {
-    let path = [quad(17, 8, 19, 8), quad(20, 11, 20, 9), quad(24, 11, 24, 9), quad(28, 11, 28, 9), quad(29, 12, 31, 12)];
+    let path = [
+        quad(17, 8, 19, 8),
+        quad(20, 11, 20, 9),
+        quad(24, 11, 24, 9),
+        quad(28, 11, 28, 9),
+        quad(29, 12, 31, 12),
+    ];
     check(Wedge {}.lets_through(&path))?;
     check(!Exact {}.lets_through(&path))
 }

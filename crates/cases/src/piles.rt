@@ -46,8 +46,17 @@ fn memory_recalls() -> Result<(), Fail> {
 #[test]
 fn both_asks_its_back_last() -> Result<(), Fail> {
     let turn = [quad(1, 4, 3, 4), quad(4, 7, 4, 5), quad(7, 4, 5, 4)];
-    let mess = [quad(17, 8, 19, 8), quad(20, 11, 20, 9), quad(24, 11, 24, 9), quad(28, 11, 28, 9), quad(29, 12, 31, 12)];
-    let mut both = Both { front: Wedge {}, back: Memory::new(Exact {}) };
+    let mess = [
+        quad(17, 8, 19, 8),
+        quad(20, 11, 20, 9),
+        quad(24, 11, 24, 9),
+        quad(28, 11, 28, 9),
+        quad(29, 12, 31, 12),
+    ];
+    let mut both = Both {
+        front: Wedge {},
+        back: Memory::new(Exact {}),
+    };
     check_eq(both.stabbing_line(&turn[0..2]), Some((-3, 3, -9)))?;
     check_eq(both.stabbing_line(&turn), None)?;
     check_eq(held(&both.back), (-3, 3, -9))?;
@@ -64,7 +73,10 @@ fn memories_over_memories() -> Result<(), Fail> {
     check_eq(twice.stabbing_line(&path), Some((0, 4, -28)))?;
     check_eq(held(&twice), (0, 4, -28))?;
     check_eq(held(&twice.below), (0, 4, -28))?;
-    let mut over = Memory::new(Both { front: Wedge {}, back: Exact {} });
+    let mut over = Memory::new(Both {
+        front: Wedge {},
+        back: Exact {},
+    });
     check(over.lets_through(&path))?;
     check_eq(over.stabbing_line(&path[1..2]), Some((0, 4, -28)))
 }

@@ -46,13 +46,33 @@ fn sits_wrongly() -> Result<(), Fail> {
     };
     check_eq(line.numbers(), (0, 4, 0))?;
     check_eq(line.value(1, 2), 8)?;
-    let well = Quad { lx: 0, ly: 1, rx: 9, ry: 0 };
-    let left_below = Quad { lx: 1, ly: -1, rx: 1, ry: -2 };
-    let right_above = Quad { lx: 1, ly: 1, rx: 2, ry: 1 };
+    let well = Quad {
+        lx: 0,
+        ly: 1,
+        rx: 9,
+        ry: 0,
+    };
+    let left_below = Quad {
+        lx: 1,
+        ly: -1,
+        rx: 1,
+        ry: -2,
+    };
+    let right_above = Quad {
+        lx: 1,
+        ly: 1,
+        rx: 2,
+        ry: 1,
+    };
     check_eq(first_wrong(&line, &[well, well]), None)?;
-    check_eq(first_wrong(&line, &[well, left_below, right_above]), Some(1))?;
+    check_eq(
+        first_wrong(&line, &[well, left_below, right_above]),
+        Some(1),
+    )?;
     check_eq(first_wrong(&line, &[right_above, left_below]), Some(0))?;
-    let above = Corner { at: Post::new(7, 1)? };
+    let above = Corner {
+        at: Post::new(7, 1)?,
+    };
     let on = Corner { at: q };
     check_eq(first_wrong(&line, &[above, above, on]), Some(2))?;
     check_eq(first_wrong(&line, &[above]), None)

@@ -1,15 +1,15 @@
-// exercise PLAN PILE: asks a pile of stabbers about paths through the doorways of a deck.
-mod deck;
+// exercise PLAN PILE: asks a pile of stabbers about paths through the doorways of a plan.
 mod order;
 mod pile;
+mod plan;
 
-use deck::Deck;
+use maps::map::Map;
 use order::answer;
 use pile::Pile;
-use std::alloc::Global;
+use plan::load;
 use std::env;
 use std::error::AnyError;
-use std::fs;
+use grid::GridMapMap;
 
 // The two words after the program's name.
 fn words(rt: &LibcRuntime) -> Result<(String, String), AnyError> {
@@ -21,26 +21,41 @@ fn words(rt: &LibcRuntime) -> Result<(String, String), AnyError> {
     }
 }
 
-fn run(rt: &LibcRuntime) -> Result<(), AnyError> {
-    let (plan, name) = words(rt)?;
+// Takes the orders, and prints each with its answer.
+fn take_orders<M: Map>(rt: &LibcRuntime, map: &M, pile: &mut Pile) -> Result<(), AnyError> {
     let heap = rt.alloc();
-    let text = fs::read_to_string(rt, plan.as_str())?;
-    let deck = Deck::read(heap, text.as_str())?;
-    let Some(mut pile) = Pile::named(name.as_str()) else {
-        return Err("usage: exercise PLAN PILE, with PILE one of exact, wedge, memory-exact".into());
-    };
-    let count = deck.doorways.len();
-    println!(rt, "deck: {count} doorways")?;
     for line in rt.lines(heap) {
         let line = line?;
         let text = line.as_str().trim();
         if text.is_empty() {
             continue;
         }
-        let said = answer(heap, &deck, &mut pile, text)?;
+        let said = answer(heap, map, pile, text)?;
         println!(rt, "{text}: {said}")?;
     }
     Ok(())
+}
+
+fn run(rt: &LibcRuntime) -> Result<(), AnyError> {
+    let (name, pile) = words(rt)?;
+    let Some(mut pile) = Pile::named(pile.as_str()) else {
+        return Err("usage: exercise PLAN PILE, with PILE exact, wedge, memory-exact, both-wedge-exact, ..".into());
+    };
+    match load(rt, name.as_str())? {
+        Ok(map) => {
+            let rooms = map.room_count();
+            let doorways = map.doorway_count();
+            println!(rt, "plan: {rooms} rooms, {doorways} doorways")?;
+            take_orders(rt, &map, &mut pile)
+        }
+        Err(fault) => {
+            let number = fault.number;
+            let layer = fault.layer;
+            let place = fault.place;
+            println!(rt, "refused {number} layer {layer} at {place}")?;
+            Err("the plan is refused".into())
+        }
+    }
 }
 
 fn main(rt: LibcRuntime) -> Result<(), AnyError> {

@@ -1,20 +1,19 @@
 // Orders: `through K ..` walks doorways by number, `Kr` from far to near.
-use crate::deck::Deck;
 use crate::pile::Pile;
 use crate::pile::Said;
-use plane::crossing::Crossing;
+use maps::map::Map;
 use plane::quad::Quad;
 use std::alloc::AllocError;
 use std::alloc::Global;
 
 // The crossing of the doorway that a word names, as walked.
-fn walked(deck: &Deck, word: &str) -> Option<Quad> {
+fn walked<M: Map>(map: &M, word: &str) -> Option<Quad> {
     let (digits, back) = match word.strip_suffix('r') {
         Some(digits) => (digits, true),
         None => (word, false),
     };
     let k = digits.parse::<usize>().ok()?;
-    let there = deck.doorways.get(k).copied()?;
+    let there = map.doorway(k)?.crossing;
     if back {
         Some(there.turned().quad())
     } else {
@@ -23,14 +22,14 @@ fn walked(deck: &Deck, word: &str) -> Option<Quad> {
 }
 
 // The path of an order, or nothing where it is none.
-fn path(heap: Global, deck: &Deck, order: &str) -> Result<Option<Vec<Quad>>, AllocError> {
+fn path<M: Map>(heap: Global, map: &M, order: &str) -> Result<Option<Vec<Quad>>, AllocError> {
     let mut words = order.split_whitespace();
     let mut quads = Vec::new(heap);
     if words.next() != Some("through") {
         return Ok(None);
     }
     for word in words {
-        let Some(quad) = walked(deck, word) else {
+        let Some(quad) = walked(map, word) else {
             return Ok(None);
         };
         quads.push(quad)?;
@@ -39,8 +38,8 @@ fn path(heap: Global, deck: &Deck, order: &str) -> Result<Option<Vec<Quad>>, All
 }
 
 // What is printed of an order.
-pub fn answer(heap: Global, deck: &Deck, pile: &mut Pile, order: &str) -> Result<String, AllocError> {
-    let Some(quads) = path(heap, deck, order)? else {
+pub fn answer<M: Map>(heap: Global, map: &M, pile: &mut Pile, order: &str) -> Result<String, AllocError> {
+    let Some(quads) = path(heap, map, order)? else {
         return String::from_str(heap, "not an order");
     };
     match pile.ask(quads.as_slice()) {

@@ -1,14 +1,14 @@
 // The piles of stabbers, by name.
 use plane::quad::Quad;
 use stabbing::both::Both;
+use stabbing::both::BothSharp;
 use stabbing::exact::Exact;
+use stabbing::exact::ExactSharp;
 use stabbing::memory::Memory;
+use stabbing::memory::MemorySharp;
 use stabbing::stabber::Sharp;
 use stabbing::stabber::Stabber;
 use stabbing::wedge::Wedge;
-use stabbing::both::BothSharp;
-use stabbing::exact::ExactSharp;
-use stabbing::memory::MemorySharp;
 use stabbing::wedge::WedgeStabber;
 
 #[derive(Drop)]
@@ -42,14 +42,20 @@ impl Pile {
     pub fn named(name: &str) -> Option<Pile> {
         let exact = Exact {};
         let wedge = Wedge {};
-        let both = Both { front: wedge, back: exact };
+        let both = Both {
+            front: wedge,
+            back: exact,
+        };
         let pile = match name {
             "exact" => Pile::Exact(exact),
             "wedge" => Pile::Wedge(wedge),
             "memory-exact" => Pile::MemoryExact(Memory::new(exact)),
             "both-wedge-exact" => Pile::BothWedgeExact(both),
             "memory-both-wedge-exact" => Pile::MemoryBothWedgeExact(Memory::new(both)),
-            "both-wedge-memory-exact" => Pile::BothWedgeMemoryExact(Both { front: wedge, back: Memory::new(exact) }),
+            "both-wedge-memory-exact" => Pile::BothWedgeMemoryExact(Both {
+                front: wedge,
+                back: Memory::new(exact),
+            }),
             "memory-memory-exact" => Pile::MemoryMemoryExact(Memory::new(Memory::new(exact))),
             _ => return None,
         };

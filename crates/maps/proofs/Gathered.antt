@@ -38,7 +38,7 @@ module _ (n k : ℕ) (from : List Passage) (into : List Doorway) (z : Passage) (
     pub inside : within n (take (k + 1) (set into k d)) ≡ true
 
   pub gathered : k < length from → k < length into → All (Joins n) (take k from) → map plain (take k into) ≡ take k from → within n (take k into) ≡ true
-    → plain d ≡ getD from k z → d .near < n → d .far < n → Gathered
+      → plain d ≡ getD from k z → d .near < n → d .far < n → Gathered
   gathered f i all same inside is a b =
       record {
         all = all-more (Joins n) from k z f all (subst (Joins n) is (joined n d a b));

@@ -8,15 +8,16 @@ ghost use Rattle.std.specs.Options.{Cases as BySome};
 ghost use Rattle.std.specs.Orderings.{Decides};
 ghost use Rattle.std.specs.shelf.Lists.{All};
 ghost use Rattle.maps.specs.Passages.{plain, Joins, within, Becomes};
+use crate::doorway::Doorway;
 use crate::listed::Listed;
 use crate::passage::Passage;
-use crate::doorway::Doorway;
 use plane::crossing::Crossing;
 use plane::post::Post;
 use plane::quad::Quad;
 
 // At most this many rooms, and this many doorways.
 const MOST_ROOMS: usize = 256;
+
 const MOST_DOORWAYS: usize = 2048;
 
 // The doorway that the numbers are, between rooms below `rooms`.
@@ -35,7 +36,11 @@ fn doorway_of(rooms: usize, p: Passage) -> Option<Doorway>
     let near = p.near;
     let far = p.far;
     match quad.crossing() {
-        Ok(crossing) => Some(Doorway { near, far, crossing }),
+        Ok(crossing) => Some(Doorway {
+            near,
+            far,
+            crossing,
+        }),
         Err(_) => None,
     }
 }
@@ -45,7 +50,11 @@ fn filler() -> Doorway {
     let left = Post { x: 0, y: 1 };
     let right = Post { x: 0, y: 0 };
     let crossing = Crossing { left, right };
-    Doorway { near: 0, far: 1, crossing }
+    Doorway {
+        near: 0,
+        far: 1,
+        crossing,
+    }
 }
 
 // Makes doorways of all that `from` has; whether each could be made.
@@ -69,7 +78,10 @@ impl Listed {
         ensures { λ r. ⌜ Becomes rooms count (now (space .entry)) (r .rooms) (take (r .count) (r .held)) ⌝ }
     {
         let mut held = [filler(); 2048];
-        let sized = rooms >= 1 && rooms <= MOST_ROOMS && count <= MOST_DOORWAYS && count <= space.len();
+        let sized = rooms >= 1
+            && rooms <= MOST_ROOMS
+            && count <= MOST_DOORWAYS
+            && count <= space.len();
         if sized && gather(rooms, &space[0..count], &mut held) {
             Listed { rooms, count, held }
         } else {

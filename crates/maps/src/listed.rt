@@ -7,6 +7,7 @@ ghost use Rattle.maps.specs.Passages.{within};
 use crate::doorway::Doorway;
 use crate::map::Map;
 
+#[derive(Drop)]
 pub struct Listed {
     pub(crate) rooms: usize,
     pub(crate) count: usize,
@@ -32,6 +33,10 @@ pub impl Map for Listed as ListedMap {
     }
 
     fn doorway(&self, k: usize) -> Option<Doorway> {
-        if k < self.count { Some(self.held[k]) } else { None }
+        if k < self.count {
+            Some(self.held[k])
+        } else {
+            None
+        }
     }
 }

@@ -38,9 +38,9 @@ module _ (p q : Post) (a b c : ℤ) (ea : a ≡ p .y -ℤ q .y) (eb : b ≡ q .x
   together no-line true d = refl
   together no-line false d =
       absurd (no-line (λ x y. d refl (points x y)) (omega (arith, ints, p .«x_within», p .«y_within», q .«x_within», q .«y_within»)))
-      where
-        points : a ≡ pos 0 → b ≡ pos 0 → place p ≡ place q
-        points x y = let u : p .x ≡ q .x = omega (arith, ints) in let v : p .y ≡ q .y = omega (arith, ints) in cc
+    where
+      points : a ≡ pos 0 → b ≡ pos 0 → place p ≡ place q
+      points x y = let u : p .x ≡ q .x = omega (arith, ints) in let v : p .y ≡ q .y = omega (arith, ints) in cc
 
   pub made-through : (r : Result Line Refusal) → Cases r (λ l. coefficients l ≡ (a, b, c)) (λ _. Proper (a, b, c) → InLimits (a, b, c) → ⊥) → mapped coefficients (okPart r) ≡ cond (same-point (place p) (place q)) None (Some (a, b, c))
   made-through (Ok l) e = apart l e (same-point (place p) (place q)) (same-point-decides (place p) (place q) .0)

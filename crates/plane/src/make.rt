@@ -39,6 +39,7 @@ impl Crossing {
 
 impl Line {
     pub const STEEPEST: u32 = 20_000;
+
     pub const FARTHEST: u32 = 200_000_000;
 
     // The line a·x + b·y + c = 0.

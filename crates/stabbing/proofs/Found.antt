@@ -33,8 +33,8 @@ first-is : {X : Type 0} (t : X → Bool) (P : X → Type 0) (xs : List X) (x : X
 first-is t P [] x h e = not-some x e
 first-is t P (y ∷ ys) x (h, hs) e =
     elim (t y) as (λ b. t y ≡ b → cond b (Some y) (first t ys) ≡ Some x → P x × (t x ≡ true)) [
-      true ↦ λ f k. let same : y ≡ x = cc in (subst P same h, ap t (sym same) ∙ f)
-    | false ↦ λ f k. first-is t P ys x hs k
+      | true ↦ λ f k. let same : y ≡ x = cc in (subst P same h, ap t (sym same) ∙ f)
+      | false ↦ λ f k. first-is t P ys x hs k
     ] refl e
 
 module _ (t : Coefficients → Bool) where
@@ -85,10 +85,10 @@ line-through-has (q ∷ p) h s =
     let differ : same-point P Q ≡ false = not-same (same-point P Q) (λ e. two (same-point-decides P Q .0 e)) in
     tries-has (λ l. separates l path) P (posts path) (posts path) j j< (at-P P)
     (fan-has (λ l. separates l path) P Q (posts path) k k< (at-Q Q) differ (separates-decides (through P Q) path .1 parts))
-    where
-      not-same : (b : Bool) → (b ≡ true → ⊥) → b ≡ false
-      not-same true f = absurd (f refl)
-      not-same false f = refl
+  where
+    not-same : (b : Bool) → (b ≡ true → ⊥) → b ≡ false
+    not-same true f = absurd (f refl)
+    not-same false f = refl
 
 pub exact-has : (p : List Quad) → Path p → Stabbed p → isSome (exact-line p) ≡ true
 unfolding exact-line
@@ -98,7 +98,7 @@ exact-has p path s = ap (λ b. isSome (cond b (line-through p) None)) (is-path-d
 pub exact-decides : (p : List Quad) → Decides (isSome (exact-line p)) (Path p × Stabbed p)
 exact-decides p = (
   λ e. let (l, f) = some-value (exact-line p) e in let is = exact-is p l f in (is .0, (l, is .1, is .3)),
-  λ h. exact-has p (h .0) (h .1)
+  λ h. exact-has p (h .0) (h .1),
 )
 
 pub exact-front : (p r : List Quad) → isSome (exact-line (p ++ r)) ≡ true → isSome (exact-line p) ≡ true

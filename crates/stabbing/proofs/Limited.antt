@@ -28,7 +28,7 @@ through-limits : (P Q : Point) → PostAt P → PostAt Q → InLimits (through P
 through-limits P Q (px, py) (qx, qy) = (
   narrow-within (P .1) (Q .1) py qy,
   narrow-within (Q .0) (P .0) qx px,
-  difference-within (P .0 *ℤ Q .1) (Q .0 *ℤ P .1) (product-within (P .0) (Q .1) 10000 10000 px qy) (product-within (Q .0) (P .1) 10000 10000 qx py)
+  difference-within (P .0 *ℤ Q .1) (Q .0 *ℤ P .1) (product-within (P .0) (Q .1) 10000 10000 px qy) (product-within (Q .0) (P .1) 10000 10000 qx py),
 )
 
 through-proper : (P Q : Point) → (P ≡ Q → ⊥) → Proper (through P Q)
@@ -43,8 +43,8 @@ fan-limited P (Q ∷ Qs) h (k, ks) =
     let rest = fan-limited P Qs h ks in
     let d = same-point-decides P Q in
     elim (same-point P Q) as (λ b. (b ≡ false → P ≡ Q → ⊥) → All (λ l. Proper l × InLimits l) (cond b (fan P Qs) (through P Q ∷ fan P Qs))) [
-      true ↦ λ _. rest
-    | false ↦ λ f. ((through-proper P Q (f refl), through-limits P Q h k), rest)
+      | true ↦ λ _. rest
+      | false ↦ λ f. ((through-proper P Q (f refl), through-limits P Q h k), rest)
     ] (not-from-decides _ d)
 
 pub tries-limited : (Ps Qs : List Point) → All PostAt Ps → All PostAt Qs → All (λ l. Proper l × InLimits l) (tries Ps Qs)

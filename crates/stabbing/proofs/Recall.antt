@@ -33,8 +33,8 @@ module _ (h : Option Line) (p : List Quad) (below : Option Coefficients) where
   pub recall-sharp : (lets : Bool) → (Path p → Stabbed p → lets ≡ true) → isSome below ≡ lets → isSome (orOther (recalled h p) below) ≡ lets
   recall-sharp lets stabbed sharp =
       elim (recalled h p) as (λ o. ((l : Coefficients) → o ≡ Some l → Path p × Proper l × InLimits l × Separates l p) → isSome (orOther o below) ≡ lets) [
-        None ↦ λ _. sharp
-      | Some l ↦ λ is. let k = is l refl in sym (stabbed (k .0) (l, k .1, k .3))
+        | None ↦ λ _. sharp
+        | Some l ↦ λ is. let k = is l refl in sym (stabbed (k .0) (l, k .1, k .3))
       ] (recalled-is h p)
 
   -- and it separates the path, as those below do

@@ -71,8 +71,8 @@ module _ (p : List Quad) where
   pub of-threes : (Q : List (List Quad) → Type 0) → (length p < 3 → Q (p ∷ [])) → (3 ≤ length p → Q (neighbours p)) → Q (threes p)
   of-threes Q short long =
       elim (ltb (length p) 3) as (λ b. (b ≡ true → Q (p ∷ [])) → (b ≡ false → Q (neighbours p)) → Q (cond b (p ∷ []) (neighbours p))) [
-        true ↦ λ s _. s refl
-      | false ↦ λ _ l. l refl
+        | true ↦ λ s _. s refl
+        | false ↦ λ _ l. l refl
       ] (λ e. short (ltb-true (length p) 3 e)) (λ e. long (ltb-false (length p) 3 e))
 
 -- Wedge's set: the paths of which each three have a separating line
@@ -81,9 +81,9 @@ unfolding wedge-lets
 wedge-decides p =
     decides-like _ (λ h. (h .0, all-weaker _ Stabbed (λ w k. k .1) (threes p) (h .1))) (λ h. (h .0, all-both Path Stabbed (threes p) (paths (h .0)) (h .1)))
     (decides-and (is-path p) (all-stabbed (threes p)) (is-path-decides p) (all-stabbed-decides (threes p)))
-    where
-      paths : Path p → All Path (threes p)
-      paths h = of-threes p (All Path) (λ _. (h, tt)) (λ _. path-threes p h)
+  where
+    paths : Path p → All Path (threes p)
+    paths h = of-threes p (All Path) (λ _. (h, tt)) (λ _. path-threes p h)
 
 pub wedge-has : (p : List Quad) → Path p → Stabbed p → wedge-lets p ≡ true
 wedge-has p path s = wedge-decides p .1 (path, of-threes p (All Stabbed) (λ _. (s, tt)) (λ _. stabbed-threes p s))
@@ -99,19 +99,19 @@ short-front : (p : List Quad) (q : Quad) → length p < 3 → All Stabbed (three
 short-front p q h s =
     let long : List Quad = p ++ q ∷ [] in
     stabbed-front p (q ∷ []) (of-threes long (λ ws. All Stabbed ws → Stabbed long) (λ _ k. k .0) three s)
-    where
-      three : 3 ≤ length (p ++ q ∷ []) → All Stabbed (neighbours (p ++ q ∷ [])) → Stabbed (p ++ q ∷ [])
-      three l k =
-          let long : List Quad = p ++ q ∷ [] in
-          let whole : take 3 long ≡ long = take-all 3 long (omega (arith, length-append p (q ∷ []))) in
-          subst Stabbed whole (subst (All Stabbed) (neighbours-more long l) k .0)
+  where
+    three : 3 ≤ length (p ++ q ∷ []) → All Stabbed (neighbours (p ++ q ∷ [])) → Stabbed (p ++ q ∷ [])
+    three l k =
+        let long : List Quad = p ++ q ∷ [] in
+        let whole : take 3 long ≡ long = take-all 3 long (omega (arith, length-append p (q ∷ []))) in
+        subst Stabbed whole (subst (All Stabbed) (neighbours-more long l) k .0)
 
 pub wedge-front : (p : List Quad) (q : Quad) → wedge-lets (p ++ q ∷ []) ≡ true → wedge-lets p ≡ true
 wedge-front p q e =
     let h = wedge-decides (p ++ q ∷ []) .0 e in
     wedge-decides p .1 (
       path-front p (q ∷ []) (h .0),
-      of-threes p (All Stabbed) (λ s. (short-front p q s (h .1), tt)) (λ l. neighbours-front Stabbed p (q ∷ []) (subst (All Stabbed) (threes-long (p ++ q ∷ []) (omega (arith, length-append p (q ∷ [])))) (h .1)))
+      of-threes p (All Stabbed) (λ s. (short-front p q s (h .1), tt)) (λ l. neighbours-front Stabbed p (q ∷ []) (subst (All Stabbed) (threes-long (p ++ q ∷ []) (omega (arith, length-append p (q ∷ [])))) (h .1))),
     )
 
 -- how the code goes through the threes
@@ -123,10 +123,10 @@ module _ (p : List Quad) where
   pub wedge-short : is-path p ≡ true → length p < 3 → wedge-lets p ≡ isSome (exact-line p)
   unfolding wedge-lets
   wedge-short e h = ap₂ (λ b ws. b && all-stabbed ws) e (threes-short p h) ∙ and-true (isSome (exact-line p))
-      where
-        and-true : (b : Bool) → (b && true) ≡ b
-        and-true true = refl
-        and-true false = refl
+    where
+      and-true : (b : Bool) → (b && true) ≡ b
+      and-true true = refl
+      and-true false = refl
 
   pub wedge-long : is-path p ≡ true → 3 ≤ length p → wedge-lets p ≡ all-stabbed (neighbours p)
   unfolding wedge-lets

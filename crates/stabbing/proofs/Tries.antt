@@ -36,8 +36,8 @@ module _ (t : Coefficients → Bool) where
   pub fan-more : (P Q : Point) (Qs : List Point) → first t (fan P (Q ∷ Qs)) ≡ orOther (first t (fan P (Q ∷ []))) (first t (fan P Qs))
   fan-more P Q Qs =
       elim (same-point P Q) as (λ b. first t (cond b (fan P Qs) (through P Q ∷ fan P Qs)) ≡ orOther (first t (cond b [] (through P Q ∷ []))) (first t (fan P Qs))) [
-        true ↦ refl
-      | false ↦ first-append (through P Q ∷ []) (fan P Qs)
+        | true ↦ refl
+        | false ↦ first-append (through P Q ∷ []) (fan P Qs)
       ]
 
   pub tries-more : (P : Point) (Ps Qs : List Point) → first t (tries (P ∷ Ps) Qs) ≡ orOther (first t (fan P Qs)) (first t (tries Ps Qs))
@@ -65,10 +65,10 @@ module _ {G : List Point → Option Coefficients} {f : Point → Option Coeffici
   post-scans = record {
     none = by .none;
     more = λ q p.
-      by .more (left q) (right q ∷ posts p)
-      ∙ ap (orOther (f (left q))) (by .more (right q) (posts p))
-      ∙ sym (or-assoc (f (left q)) (f (right q)) (G (posts p)))
-      ∙ ap (λ o. orOther o (G (posts p))) (sym (one-crossing q));
+        by .more (left q) (right q ∷ posts p)
+        ∙ ap (orOther (f (left q))) (by .more (right q) (posts p))
+        ∙ sym (or-assoc (f (left q)) (f (right q)) (G (posts p)))
+        ∙ ap (λ o. orOther o (G (posts p))) (sym (one-crossing q));
   }
 
 pub fan-by-post : (t : Coefficients → Bool) (P : Point) → ByPost (λ Qs. first t (fan P Qs)) (λ Q. first t (fan P (Q ∷ [])))

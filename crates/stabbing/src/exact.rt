@@ -23,7 +23,11 @@ fn joining(p: Post, q: Post, path: &[Quad]) -> Option<Line>
     ensures { λ r. ⌜ mapped coefficients r ≡ first (λ l. separates l (now (path .entry))) (fan (place p) (place q ∷ [])) ⌝ }
 {
     let line = Line::through(p, q)?;
-    if line.separates(path) { Some(line) } else { None }
+    if line.separates(path) {
+        Some(line)
+    } else {
+        None
+    }
 }
 
 // The first line from p to a post of the crossing that separates the path.

@@ -16,8 +16,8 @@ pub returns-then-not-is-crossing : need.returns-then-not-is-crossing
 returns-then-not-is-crossing c =
     let list = c .args .list .now in
     let test : Decides false (Path list) = (
-        λ e. absurd (false≢true e),
-        λ h. c .if-not-is-crossing .ensures tt .1 (all-getD Crosses list (c .loop-quad .quad-index) _ (c .loop-quad-test .taken) (h .1))
+      λ e. absurd (false≢true e),
+      λ h. c .if-not-is-crossing .ensures tt .1 (all-getD Crosses list (c .loop-quad .quad-index) _ (c .loop-quad-test .taken) (h .1)),
     ) in
     record { value = same-from-decides false (is-path list) test (is-path-decides list); test = test }
 

@@ -1,0 +1,15 @@
+pub mod Areas
+pub mod Starts
+pub mod Strokes
+pub mod Inks
+pub mod Rules
+pub mod Paintings
+pub mod Sides
+pub mod Places
+pub mod Meanings
+pub mod Fronts
+pub mod Blames
+pub mod Between
+pub mod Openings
+pub mod Joined
+pub mod Pictured
