@@ -3,13 +3,13 @@ mod order;
 mod pile;
 mod plan;
 
+use grid::GridMapMap;
 use maps::map::Map;
 use order::answer;
 use pile::Pile;
 use plan::load;
 use std::env;
 use std::error::AnyError;
-use grid::GridMapMap;
 
 // The two words after the program's name.
 fn words(rt: &LibcRuntime) -> Result<(String, String), AnyError> {

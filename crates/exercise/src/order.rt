@@ -38,7 +38,12 @@ fn path<M: Map>(heap: Global, map: &M, order: &str) -> Result<Option<Vec<Quad>>,
 }
 
 // What is printed of an order.
-pub fn answer<M: Map>(heap: Global, map: &M, pile: &mut Pile, order: &str) -> Result<String, AllocError> {
+pub fn answer<M: Map>(
+    heap: Global,
+    map: &M,
+    pile: &mut Pile,
+    order: &str,
+) -> Result<String, AllocError> {
     let Some(quads) = path(heap, map, order)? else {
         return String::from_str(heap, "not an order");
     };

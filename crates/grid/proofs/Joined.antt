@@ -30,8 +30,7 @@ module _ (s : Size) (roomy : Roomy s) where
 
   east-joins : (i j : ℕ) → i + 1 < s .w → j < s .h → Joins (s .w * s .h) (eastward (s .w) i j)
   east-joins i j a b =
-      let far = mul-add-lt j (s .w) (i + 1) (s .h) b a in
-      (
+      let far = mul-add-lt j (s .w) (i + 1) (s .h) b a in (
         omega arith,
         omega arith,
         (λ e. omega arith),
@@ -42,8 +41,7 @@ module _ (s : Size) (roomy : Roomy s) where
   north-joins i j a b =
       let near = mul-add-lt j (s .w) i (s .h) (omega arith) a in
       let far = mul-add-lt (j + 1) (s .w) i (s .h) b a in
-      let up : (j + 1) * s .w ≡ j * s .w + s .w = add-mul j 1 (s .w) ∙ ap (λ n. j * s .w + n) (one-mul (s .w)) in
-      (
+      let up : (j + 1) * s .w ≡ j * s .w + s .w = add-mul j 1 (s .w) ∙ ap (λ n. j * s .w + n) (one-mul (s .w)) in (
         near,
         far,
         (λ e. omega arith),
@@ -54,8 +52,8 @@ module _ (s : Size) (roomy : Roomy s) where
   passage-joins k h f =
       let at = stands s k h in
       elim (odd (row s k)) as (λ b. odd (row s k) ≡ b → Joins (s .w * s .h) (cond b (eastward (s .w) ((column s k - 2) / 2) ((row s k - 1) / 2)) (northward (s .w) ((column s k - 1) / 2) ((row s k - 2) / 2)))) [
-        true ↦ λ e. let r = rooms-beside s (column s k) (row s k) f (at .0) (at .1) (eqb-true _ _ e) in east-joins _ _ (r .0) (r .1)
-      | false ↦ λ e. let r = rooms-above s (column s k) (row s k) f (at .0) (at .1) (eqb-false _ _ e) in north-joins _ _ (r .0) (r .1)
+        | true ↦ λ e. let r = rooms-beside s (column s k) (row s k) f (at .0) (at .1) (eqb-true _ _ e) in east-joins _ _ (r .0) (r .1)
+        | false ↦ λ e. let r = rooms-above s (column s k) (row s k) f (at .0) (at .1) (eqb-false _ _ e) in north-joins _ _ (r .0) (r .1)
       ] refl
 
   pub openings-join : (ps : List ℕ) (n : ℕ) → n ≤ area s → All (Joins (s .w * s .h)) (openings s ps n)
@@ -64,6 +62,6 @@ module _ (s : Size) (roomy : Roomy s) where
   openings-join ps (suc n) h =
       all-append _ (openings s ps n) _ (openings-join ps n (omega arith))
       (elim (opening s ps n) as (λ b. opening s ps n ≡ b → All (Joins (s .w * s .h)) (cond b (passage-at s n ∷ []) [])) [
-        true ↦ λ e. (passage-joins n (omega arith) (and-parts (free (rule-of s (column s n) (row s n))) _ e .0), tt)
-      | false ↦ λ _. tt
+        | true ↦ λ e. (passage-joins n (omega arith) (and-parts (free (rule-of s (column s n) (row s n))) _ e .0), tt)
+        | false ↦ λ _. tt
       ] refl)

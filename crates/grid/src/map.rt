@@ -39,11 +39,15 @@ impl GridMap {
     {
         let mut found = empty_space();
         if !is_drawn(size, space) {
-            return GridMap { list: Listed::new(1, 0, &found) };
+            return GridMap {
+                list: Listed::new(1, 0, &found),
+            };
         }
         let count = find_openings(size, space, &mut found);
         let rooms = usize::from(size.w) * usize::from(size.h);
-        GridMap { list: Listed::new(rooms, count, &found) }
+        GridMap {
+            list: Listed::new(rooms, count, &found),
+        }
     }
 }
 

@@ -16,13 +16,13 @@ loop-k-again c =
     let count = c .loop-k .count in
     let out = c .loop-k .out in
     elim (c .if-is-opening .came) [
-      then-is-opening w ↦ (
+      | then-is-opening w ↦ (
         ap₂ take (w .count-is) (w .out-is ∙ ap (set out count) (w .passage .ensures))
-        ∙ opened s ps k count out (omega arith) (c .loop-k .inv .0) (sym (w .if-is-opening .ensures tt)),
-        omega arith
+            ∙ opened s ps k count out (omega arith) (c .loop-k .inv .0) (sym (w .if-is-opening .ensures tt)),
+        omega arith,
       )
-    | else-is-opening w ↦ (
+      | else-is-opening w ↦ (
         passed s ps k _ (ap₂ take (w .count-is) (w .out-is) ∙ c .loop-k .inv .0) (sym (w .if-is-opening .ensures tt)),
-        omega arith
+        omega arith,
       )
     ]

@@ -1,0 +1,14 @@
+pub mod Numbers
+pub mod Bits
+pub mod Members
+pub mod Steps
+pub mod Questions
+pub mod TrueRows
+pub mod Orders
+pub mod Turns
+pub mod SameRows
+pub mod Histories
+pub mod Paths
+pub mod Walked
+pub mod States
+pub mod Unfilled

@@ -1,0 +1,13 @@
+pub mod Limits
+pub mod Sets
+pub mod Worlds
+pub mod Walks
+pub mod Steps
+pub mod Questions
+pub mod Bits
+pub mod Refusals
+pub mod Sights
+pub mod States
+pub mod Answers
+pub mod Histories
+pub mod Orders
