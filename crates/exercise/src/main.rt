@@ -7,9 +7,12 @@ use grid::GridMapMap;
 use maps::map::Map;
 use order::answer;
 use pile::Pile;
+use plan::Plan;
 use plan::load;
+use polygon::map::PolygonMapMap;
 use std::env;
 use std::error::AnyError;
+use text::Fault;
 
 // The two words after the program's name.
 fn words(rt: &LibcRuntime) -> Result<(String, String), AnyError> {
@@ -21,9 +24,12 @@ fn words(rt: &LibcRuntime) -> Result<(String, String), AnyError> {
     }
 }
 
-// Takes the orders, and prints each with its answer.
+// Says what the map has, takes the orders, and prints each with its answer.
 fn take_orders<M: Map>(rt: &LibcRuntime, map: &M, pile: &mut Pile) -> Result<(), AnyError> {
     let heap = rt.alloc();
+    let rooms = map.room_count();
+    let doorways = map.doorway_count();
+    println!(rt, "plan: {rooms} rooms, {doorways} doorways")?;
     for line in rt.lines(heap) {
         let line = line?;
         let text = line.as_str().trim();
@@ -36,25 +42,24 @@ fn take_orders<M: Map>(rt: &LibcRuntime, map: &M, pile: &mut Pile) -> Result<(),
     Ok(())
 }
 
+// A plan that is refused ends the program.
+fn refuse(rt: &LibcRuntime, fault: Fault) -> Result<(), AnyError> {
+    let number = fault.number;
+    let layer = fault.layer;
+    let place = fault.place;
+    println!(rt, "refused {number} layer {layer} at {place}")?;
+    Err("the plan is refused".into())
+}
+
 fn run(rt: &LibcRuntime) -> Result<(), AnyError> {
     let (name, pile) = words(rt)?;
     let Some(mut pile) = Pile::named(pile.as_str()) else {
         return Err("usage: exercise PLAN PILE, with PILE exact, wedge, memory-exact, both-wedge-exact, ..".into());
     };
     match load(rt, name.as_str())? {
-        Ok(map) => {
-            let rooms = map.room_count();
-            let doorways = map.doorway_count();
-            println!(rt, "plan: {rooms} rooms, {doorways} doorways")?;
-            take_orders(rt, &map, &mut pile)
-        }
-        Err(fault) => {
-            let number = fault.number;
-            let layer = fault.layer;
-            let place = fault.place;
-            println!(rt, "refused {number} layer {layer} at {place}")?;
-            Err("the plan is refused".into())
-        }
+        Plan::Grid(map) => take_orders(rt, &map, &mut pile),
+        Plan::Polygon(map) => take_orders(rt, &map, &mut pile),
+        Plan::Refused(fault) => refuse(rt, fault),
     }
 }
 

@@ -3,3 +3,5 @@
 mod numbers;
 #[cfg(test)]
 mod plans;
+#[cfg(test)]
+mod polygons;

@@ -1,0 +1,13 @@
+pub mod Starts
+pub mod Fillings
+pub mod Facings
+pub mod Steps
+pub mod Turning
+pub mod Linking
+pub mod Listing
+pub mod Clearing
+pub mod Counting
+pub mod Shared
+pub mod Rounds
+pub mod Answering
+pub mod Accepting

@@ -1,0 +1,14 @@
+pub mod Outs
+pub mod Headings
+pub mod Wholes
+pub mod Corners
+pub mod Faces
+pub mod Layouts
+pub mod Convexity
+pub mod Edges
+pub mod Chains
+pub mod Doorways
+pub mod Plans
+pub mod Sharing
+pub mod Counterclockwise
+pub mod Accepted
