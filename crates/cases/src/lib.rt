@@ -1,4 +1,6 @@
 // Worked cases, each worked out by hand, in a crate of their own.
+#![tactic(auto)]
+
 #[cfg(test)]
 mod lines;
 #[cfg(test)]

@@ -1,4 +1,6 @@
 // exercise PLAN PILE: takes orders for a plan's table from standard input, and prints each with its answer.
+#![tactic(auto)]
+
 mod lines;
 mod orders;
 mod pile;

@@ -1,4 +1,6 @@
 // exercise PLAN PILE: asks a pile of stabbers about paths through the doorways of a plan.
+#![tactic(auto)]
+
 mod order;
 mod pile;
 mod plan;

@@ -1,4 +1,6 @@
 // Reads a floor plan that is drawn as a plain PBM picture.
+#![tactic(auto)]
+
 mod colours;
 mod doorways;
 mod drawn;

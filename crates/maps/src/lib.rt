@@ -1,4 +1,6 @@
 // Maps: rooms, and the doorways between them.
+#![tactic(auto)]
+
 pub mod doorway;
 pub mod gather;
 pub mod listed;

@@ -1,4 +1,6 @@
 // Posts, crossings and lines in the plane, and the one check that sets elements against a line.
+#![tactic(auto)]
+
 pub mod check;
 pub mod corner;
 pub mod crossing;

@@ -1,4 +1,6 @@
 // Reads a floor plan that is given as an OFF polygon file, and makes the map of it.
+#![tactic(auto)]
+
 mod chains;
 mod convexity;
 mod corners;

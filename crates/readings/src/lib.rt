@@ -1,4 +1,6 @@
 // Tables of texts, with what the text layer and the grid reader answer to each.
+#![tactic(auto)]
+
 #[cfg(test)]
 mod numbers;
 #[cfg(test)]

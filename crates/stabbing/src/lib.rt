@@ -1,4 +1,6 @@
 // Stabbers: what lets a path through, and by which line.
+#![tactic(auto)]
+
 mod arrow;
 pub mod both;
 mod ends;

@@ -1,4 +1,6 @@
 // The text layer of the readers: bytes into white space, decimal numbers and marks, each fault with its number, layer and place.
+#![tactic(auto)]
+
 mod bytes;
 mod faults;
 mod lexing;

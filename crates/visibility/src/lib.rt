@@ -1,4 +1,6 @@
 // What can be seen from where: walks, the search that fills a row, and the table.
+#![tactic(auto)]
+
 pub mod call;
 pub mod calls;
 pub mod fill;

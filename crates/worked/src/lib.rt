@@ -1,4 +1,6 @@
 // Two small plans with cases worked out by hand. The cases are proved from the definitions that the contracts use, and run as tests.
+#![tactic(auto)]
+
 ghost use Rattle.std.specs.Prelude.{◌≡◌};
 ghost use Rattle.worked.specs.Cases.{WorkedCases};
 ghost use Rattle.worked.specs.Plans.{ring, corridor};

@@ -5,14 +5,14 @@ use Rattle.plane.specs.Shapes.{coefficients}
 use Rattle.plane.proofs.First.{first_found, first_none}
 use Rattle.plane.proofs.check.first_wrong.Goals as goal
 
-pub returns-then-not-sits-well : goal.returns-then-not-sits-well
-returns-then-not-sits-well g c =
-    sym (first_found _ _ _ _ c.loop-k-test.true c.index-elements-k.is c.loop-k.invariant (ap not (sym c.if-not-sits-well.ensures)))
+pub returns-then-not-sits_well : goal.returns-then-not-sits_well
+returns-then-not-sits_well g c =
+    sym (first_found _ _ _ _ c.loop-k-test.true c.index-elements-k.is c.loop-k.invariant (ap not (sym c.if-not-sits_well.ensures)))
 
 pub loop-k-preserved : goal.loop-k-preserved
 loop-k-preserved g c =
     All-more _ _ _ c.index-elements-k.result c.loop-k-test.true c.loop-k.invariant
-    (ap (λ e. not (g.E.Sided.well e (coefficients c.args.line.now))) (sym c.index-elements-k.is) ∙ ap not (sym c.if-not-sits-well.ensures))
+    (ap (λ e. not (g.E.Sided.well e (coefficients c.args.line.now))) (sym c.index-elements-k.is) ∙ ap not (sym c.if-not-sits_well.ensures))
 
 pub returns : goal.returns
 returns g c =

@@ -8,18 +8,18 @@ use Rattle.plane.specs.Tests.{is_path}
 use Rattle.plane.proofs.Tests.{is_path_decides}
 use Rattle.plane.proofs.path.is_path.Goals as goal
 
-pub returns-then-not-is-crossing : goal.returns-then-not-is-crossing
-returns-then-not-is-crossing c =
+pub returns-then-not-is_crossing : goal.returns-then-not-is_crossing
+returns-then-not-is_crossing c =
     let list = c.args.list.now in
     let test : Decides false (Path list) = (
       λ e. absurd (false≢true e),
-      λ h. c.if-not-is-crossing.ensures.1 (All-get_or Crosses list c.loop-quad.quad-index _ c.loop-quad-test.true h.1),
+      λ h. c.if-not-is_crossing.ensures.1 (All-get_or Crosses list c.loop-quad.quad-index _ c.loop-quad-test.true h.1),
     ) in
     record { value = same_from_decides false (is_path list) test (is_path_decides list); test = test }
 
 pub loop-quad-preserved : goal.loop-quad-preserved
 loop-quad-preserved c =
-    All-more Crosses c.args.list.now c.loop-quad.quad-index _ c.loop-quad-test.true c.loop-quad.invariant (c.if-not-is-crossing.ensures.0 refl)
+    All-more Crosses c.args.list.now c.loop-quad.quad-index _ c.loop-quad-test.true c.loop-quad.invariant (c.if-not-is_crossing.ensures.0 refl)
 
 pub returns : goal.returns
 returns c =

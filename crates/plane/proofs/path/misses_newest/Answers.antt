@@ -11,5 +11,5 @@ returns-then-n-gt0 c missed separates =
     let l = coefficients c.args.line.now in
     let path = c.args.path.now in
     let parts = All-get_or (Parts l) path (length path - 1) _ (omega arith) separates in
-    let well = c.sits-well.ensures ∙ (parts_decides l _).1 parts in
+    let well = c.sits_well.ensures ∙ (parts_decides l _).1 parts in
     false≢true (sym (ap not well) ∙ missed)

@@ -25,9 +25,9 @@ returns-in-Some c =
     let same : false ≡ separates l p = not_same _ _ (ap is_some c.in-Some.ensures ∙ wrong_somewhere l p) in
     record { value = same; test = Decides-at _ _ same (separates_decides l p) }
 
-pub returns-then-misses-newest : goal.returns-then-misses-newest
-returns-then-misses-newest c =
+pub returns-then-misses_newest : goal.returns-then-misses_newest
+returns-then-misses_newest c =
     let l = coefficients c.args.self.now in
     let p = c.args.path.now in
-    let same = not_separates l p (c.if-misses-newest.ensures refl) in
+    let same = not_separates l p (c.if-misses_newest.ensures refl) in
     record { value = same; test = Decides-at _ _ same (separates_decides l p) }

@@ -5,11 +5,11 @@ use Rattle.text.specs.Turns.{told, at_after, state_after, Sound}
 use Rattle.text.proofs.Turns.{turn_more, sound_more}
 use Rattle.text.proofs.lexing.Lexer.step.Goals as goal
 
-pub returns-then-k-lt-MOST-DIGITS : goal.returns-then-k-lt-MOST-DIGITS
-returns-then-k-lt-MOST-DIGITS c =
+pub returns-then-k-lt-MOST_DIGITS : goal.returns-then-k-lt-MOST_DIGITS
+returns-then-k-lt-MOST_DIGITS c =
     let arm = c.in-Digits-Digit in
-    let went = c.go-then-k-lt-MOST-DIGITS.ensures in
-    let few : arm.k < 6 = omega (arith, c.if-k-lt-MOST-DIGITS.true) in
+    let went = c.go-then-k-lt-MOST_DIGITS.ensures in
+    let few : arm.k < 6 = omega (arith, c.if-k-lt-MOST_DIGITS.true) in
     let e = turn_more c.args.signed c.args.self.now.at _ _ _ _ _ arm.is-0 arm.ensures few in
     let new = went.state ∙ ap (λ x. Digits x (arm.k + 1)) c.more.ensures in
     record {
