@@ -16,7 +16,7 @@ use Rattle.plane.proofs.Tests.{same_point_decides, separates_decides}
 use Rattle.plane.proofs.TwoPosts.{through_left}
 use Rattle.stabbing.specs.Exact.{fan, first_line}
 use Rattle.stabbing.specs.Refutation.{Refuted}
-use Rattle.stabbing.proofs.Found.{apart, line_through_is}
+use Rattle.stabbing.specs.Found.{apart, line_through_is}
 
 -- a line that does not pass is not the first
 passed_over : {X : Type 0} (b : Bool) (x : X) (o : Option X) → (b ≡ true → ⊥) → o ≡ None → cond b (Some x) o ≡ None

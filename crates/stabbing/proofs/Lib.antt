@@ -1,11 +1,3 @@
-pub mod Answers
-pub mod Scan
-pub mod Tries
-pub mod Limited
-pub mod Fronts
-pub mod Found
-pub mod Recall
-pub mod Threes
 pub mod Unstabbed
 pub mod HalfPlanes
 pub mod Spokes

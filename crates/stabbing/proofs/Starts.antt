@@ -8,7 +8,7 @@ use Rattle.plane.specs.Lines.{posts, through}
 use Rattle.plane.specs.Separation.{Coefficients, Point, left, right}
 use Rattle.plane.specs.Tests.{same_point}
 use Rattle.stabbing.specs.Exact.{fan, tries}
-use Rattle.stabbing.proofs.Answers.{not_some}
+use Rattle.stabbing.specs.Answers.{not_some}
 
 pub all_take : {X : Type 0} (P : X → Type 0) (n : ℕ) (xs : List X) → All P xs → All P (take n xs)
 all_take P zero xs h = tt

@@ -5,7 +5,7 @@ use Rattle.std.proofs.lemmas.Bool.{false≢true}
 use Rattle.plane.specs.declared.quad.Quad.{Quad}
 use Rattle.plane.proofs.Tests.{is_path_decides}
 use Rattle.stabbing.specs.Exact.{SomeUnstabbed, exact_line, first_line}
-use Rattle.stabbing.proofs.Found.{exact_has}
+use Rattle.stabbing.specs.Found.{exact_has}
 
 crossing : ℤ → ℤ → ℤ → ℤ → Quad
 crossing a b c d = record { lx = a; ly = b; rx = c; ry = d }

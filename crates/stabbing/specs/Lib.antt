@@ -5,3 +5,11 @@ pub mod Arrows
 pub mod Spans
 pub mod Refutation
 pub mod BothSharpLemmas
+pub mod Found
+pub mod Threes
+pub mod Recall
+pub mod Scan
+pub mod Tries
+pub mod Limited
+pub mod Fronts
+pub mod Answers

@@ -9,6 +9,7 @@ ghost use Rattle.plane.specs.Separation.{Coefficients, Stabbed, left};
 ghost use Rattle.plane.specs.Shapes.{coefficients, place};
 ghost use Rattle.plane.specs.Tests.{separates};
 ghost use Rattle.stabbing.specs.Exact.{SomeUnstabbed, exact_line, fan, first_line, tries};
+ghost use Rattle.stabbing.specs.Found.{exact_decides, exact_front, exact_has, exact_is};
 ghost use Rattle.stabbing.specs.Refutation.{Refuted};
 ghost use Rattle.std.proofs.Common.{rules};
 
@@ -152,6 +153,12 @@ impl Stabber for Exact {
 
     ghost asked = { λ s _. s };
 
+    ghost path = { λ s p e. ((exact_decides p).0 e).0 };
+
+    ghost stabbed = { λ s p path line. exact_has p path line };
+
+    ghost prefix = { λ s p q e. exact_front p (q ∷ []) e };
+
     ghost steady = { Prim.search rules };
 
     fn lets_through(&mut self, path: &[Quad]) -> bool {
@@ -165,6 +172,8 @@ impl Sharp for Exact {
     ghost lined = { λ s _. s };
 
     ghost sharp = { Prim.search rules };
+
+    ghost separates = { λ s p l e. let is = exact_is p l e in (is.1, is.2, is.3) };
 
     ghost steady = { Prim.search rules };
 

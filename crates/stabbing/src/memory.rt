@@ -2,6 +2,7 @@
 ghost use Rattle.std.specs.Prelude.{◌≡◌, is_some, if◌then◌else◌, None};
 ghost use Rattle.std.specs.Option.{option_or};
 ghost use Rattle.stabbing.specs.Memory.{recalled, kept};
+ghost use Rattle.stabbing.specs.Recall.{recall_sharp, recall_separates};
 ghost use Rattle.std.proofs.Common.{rules};
 
 use crate::stabber::{Sharp, Stabber};
@@ -82,6 +83,10 @@ impl<S: Sharp> Sharp for Memory<S> {
     ghost line = { λ s p. option_or (recalled s.held p) (S.Sharp.line s.below p) };
 
     ghost lined = { λ s p. (if is_some (recalled s.held p) then s else (record { below = S.Sharp.lined s.below p; held = kept s.held (S.Sharp.line s.below p) })) };
+
+    ghost sharp = { λ s p. recall_sharp s.held p (S.Sharp.line s.below p) (S.Stabber.lets s.below p) (S.Stabber.stabbed s.below p) (S.Sharp.sharp s.below p) };
+
+    ghost separates = { λ s p l e. recall_separates s.held p (S.Sharp.line s.below p) l (S.Sharp.separates s.below p l) e };
 
     ghost steady = { Prim.search rules };
 

@@ -4,6 +4,7 @@ ghost use Rattle.std.specs.List.{AllByRecursion as All};
 ghost use Rattle.plane.specs.Limits.{Path};
 ghost use Rattle.plane.specs.Separation.{Stabbed};
 ghost use Rattle.stabbing.specs.Wedge.{all_stabbed, neighbours, threes, wedge_lets};
+ghost use Rattle.stabbing.specs.Threes.{wedge_decides, wedge_front, wedge_has};
 ghost use Rattle.std.proofs.Common.{rules};
 
 use crate::exact::exact_line;
@@ -46,6 +47,12 @@ impl Stabber for Wedge {
     ghost lets = { λ _ p. wedge_lets p };
 
     ghost asked = { λ s _. s };
+
+    ghost path = { λ s p e. ((wedge_decides p).0 e).0 };
+
+    ghost stabbed = { λ s p path line. wedge_has p path line };
+
+    ghost prefix = { λ s p q e. wedge_front p q e };
 
     ghost steady = { Prim.search rules };
 

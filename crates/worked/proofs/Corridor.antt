@@ -8,8 +8,8 @@ use Rattle.maps.specs.Gathered.{within_all}
 use Rattle.grid.specs.Doorways.{eastward, northward}
 use Rattle.stabbing.specs.Exact.{exact_line, first_line}
 use Rattle.stabbing.specs.Wedge.{wedge_lets}
-use Rattle.stabbing.proofs.Found.{exact_front}
-use Rattle.stabbing.proofs.Threes.{wedge_front}
+use Rattle.stabbing.specs.Found.{exact_front}
+use Rattle.stabbing.specs.Threes.{wedge_front}
 use Rattle.sightlines.specs.declared.call.Call.{Call}
 use Rattle.sightlines.specs.declared.call.Call.TheVariants.{Fill, Shut}
 use Rattle.sightlines.specs.Histories.{SeenAfter, Apart, Current, Lost, Counts}

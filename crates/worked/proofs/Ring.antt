@@ -5,7 +5,7 @@ use Rattle.maps.specs.declared.passage.Passage.{Passage}
 use Rattle.maps.specs.Gathered.{within_all}
 use Rattle.grid.specs.Doorways.{eastward, northward}
 use Rattle.stabbing.specs.Exact.{exact_line, first_line}
-use Rattle.stabbing.proofs.Found.{exact_front}
+use Rattle.stabbing.specs.Found.{exact_front}
 use Rattle.sightlines.specs.declared.call.Call.TheVariants.{Shut}
 use Rattle.sightlines.specs.Histories.{shut_after}
 use Rattle.sightlines.specs.Questions.{rest}

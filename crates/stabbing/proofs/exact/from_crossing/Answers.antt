@@ -2,14 +2,14 @@ use Rattle.std.proofs.ByRecursion.{all-has}
 use Rattle.plane.specs.Limits.{Crosses}
 use Rattle.plane.specs.Lines.{posts}
 use Rattle.plane.specs.Tests.{separates}
-use Rattle.stabbing.proofs.Tries.{at_left, at_right, tries_by_post}
+use Rattle.stabbing.specs.Tries.{at_left, at_right, tries_by_post}
 use Rattle.stabbing.proofs.exact.from_crossing.Goals as goal
 
 pub ends-from-requires : goal.ends-from-requires
 ends-from-requires c = all-has Crosses c.args.path.now c.args.near.now c.requires.0 c.requires.1.0
 
-pub from-right-requires : goal.from-right-requires
-from-right-requires c = (c.requires.0, (c.requires.1.0, c.requires.1.1 c.if-left-refuted.true))
+pub from_right-requires : goal.from_right-requires
+from_right-requires c = (c.requires.0, (c.requires.1.0, c.requires.1.1 c.if-left_refuted.true))
 
 pub returns-in-Some : goal.returns-in-Some
 returns-in-Some c =
@@ -19,4 +19,4 @@ returns-in-Some c =
 pub returns-in-None : goal.returns-in-None
 returns-in-None c =
     at_right (tries_by_post (λ l. separates l c.args.path.now) (posts c.args.path.now)) _ _ c.args.near.now _
-    c.ends-from.ensures.0 c.ends-from.ensures.1 c.in-None.ensures c.from-post-in-None.ensures
+    c.ends-from.ensures.0 c.ends-from.ensures.1 c.in-None.ensures c.from_post-in-None.ensures

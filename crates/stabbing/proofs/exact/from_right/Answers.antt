@@ -6,7 +6,7 @@ use Rattle.plane.specs.Separation.{left}
 use Rattle.plane.specs.Shapes.{place}
 use Rattle.plane.specs.Tests.{separates}
 use Rattle.stabbing.proofs.Hopeless.{refuted_none}
-use Rattle.stabbing.proofs.Tries.{at_right, tries_by_post}
+use Rattle.stabbing.specs.Tries.{at_right, tries_by_post}
 use Rattle.stabbing.proofs.exact.from_right.Goals as goal
 
 pub ends-from-requires : goal.ends-from-requires
@@ -25,4 +25,4 @@ returns c =
     let path = c.args.path.now in
     let near = c.args.near.now in
     at_right (tries_by_post (λ l. separates l path) (posts path)) _ _ near _ refl c.ends-from.ensures.1
-    (sym (refuted_none path (left near) (posts path) c.requires.1.1)) c.from-post.ensures
+    (sym (refuted_none path (left near) (posts path) c.requires.1.1)) c.from_post.ensures

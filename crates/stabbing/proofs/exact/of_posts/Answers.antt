@@ -8,15 +8,15 @@ use Rattle.plane.specs.Tests.{separates}
 use Rattle.stabbing.specs.Exact.{first_line}
 use Rattle.stabbing.specs.Refutation.{Refuted}
 use Rattle.stabbing.proofs.Hopeless.{all_refuted_none, in_front}
-use Rattle.stabbing.proofs.Scan.{scan_found, scan_more, scan_none}
-use Rattle.stabbing.proofs.Tries.{tries_by_post, post_scans}
+use Rattle.stabbing.specs.Scan.{scan_found, scan_more, scan_none}
+use Rattle.stabbing.specs.Tries.{tries_by_post, post_scans}
 use Rattle.stabbing.proofs.exact.of_posts.Goals as goal
 
-pub from-crossing-requires : goal.from-crossing-requires
-from-crossing-requires c =
+pub from_crossing-requires : goal.from_crossing-requires
+from_crossing-requires c =
     let path = c.args.path.now in
     let k = c.loop-k.k in
-    let r = c.refuted-front-refuted.ensures in (
+    let r = c.refuted_front-refuted.ensures in (
       c.requires,
       (
         has_get_or path k _ c.loop-k-test.true,
@@ -27,8 +27,8 @@ from-crossing-requires c =
 pub returns-then-refuted-path : goal.returns-then-refuted-path
 returns-then-refuted-path c =
     let path = c.args.path.now in
-    let every = take_all c.refuted-front-refuted.result path (omega arith) in
-    all_refuted_none path c.requires (subst (All (λ q. Refuted (left q) path)) every c.refuted-front-refuted.ensures.all)
+    let every = take_all c.refuted_front-refuted.result path (omega arith) in
+    all_refuted_none path c.requires (subst (All (λ q. Refuted (left q) path)) every c.refuted_front-refuted.ensures.all)
 
 pub returns-in-Some : goal.returns-in-Some
 unfolding first_line
@@ -41,7 +41,7 @@ pub loop-k-preserved : goal.loop-k-preserved
 loop-k-preserved c =
     let path = c.args.path.now in
     scan_more (post_scans (tries_by_post (λ l. separates l path) (posts path))) path c.loop-k.k c.loop-k.invariant
-    _ c.loop-k-test.true c.in-default.ensures
+    _ c.loop-k-test.true c.in_default.ensures
 
 pub returns : goal.returns
 unfolding first_line

@@ -1,6 +1,6 @@
 use Rattle.plane.specs.Shapes.{place}
 use Rattle.plane.specs.Tests.{separates}
-use Rattle.stabbing.proofs.Tries.{at_left, at_right, fan_by_post}
+use Rattle.stabbing.specs.Tries.{at_left, at_right, fan_by_post}
 use Rattle.stabbing.proofs.exact.to_crossing.Goals as goal
 
 pub returns-in-Some : goal.returns-in-Some

@@ -2,8 +2,8 @@ use Rattle.std.proofs.Common.{lit<, w32}
 use Rattle.plane.proofs.Products.{product_within, product_fits, product_read}
 use Rattle.stabbing.proofs.turns.product.Goals as goal
 
-pub overflow-mul-result : goal.overflow-mul-result
-overflow-mul-result c = product_fits w32 _ _ 20000 20000 c.ranges.m c.ranges.n c.requires.0 c.requires.1 (lit< tt)
+pub overflow_mul-result : goal.overflow_mul-result
+overflow_mul-result c = product_fits w32 _ _ 20000 20000 c.ranges.m c.ranges.n c.requires.0 c.requires.1 (lit< tt)
 
 pub returns : goal.returns
 returns c =

@@ -1,6 +1,6 @@
 use Rattle.std.proofs.Common.{is_some, sym, ap, ◌∙◌}
-use Rattle.stabbing.proofs.Answers.{if_some}
-use Rattle.stabbing.proofs.Recall.{recall_sharp, recall_separates}
+use Rattle.stabbing.specs.Answers.{if_some}
+use Rattle.stabbing.specs.Recall.{recall_sharp, recall_separates}
 use Rattle.stabbing.proofs.memory.MemorySharp.stabbing_line.Goals as goal
 
 pub returns : goal.returns

@@ -7,7 +7,7 @@ use Rattle.plane.specs.Lines.{posts, through}
 use Rattle.plane.specs.Separation.{Point, Coefficients, left, right}
 use Rattle.plane.specs.Tests.{same_point}
 use Rattle.stabbing.specs.Exact.{fan, tries}
-use Rattle.stabbing.proofs.Scan.{Scans}
+use Rattle.stabbing.specs.Scan.{Scans}
 
 or_assoc : {X : Type 0} (a b c : Option X) → option_or (option_or a b) c ≡ option_or a (option_or b c)
 or_assoc None b c = refl

@@ -13,10 +13,10 @@ use Rattle.plane.specs.Tests.{is_path, same_point, separates}
 use Rattle.plane.proofs.Tests.{is_path_decides, same_point_decides, separates_decides}
 use Rattle.plane.proofs.TwoPosts.{two_posts}
 use Rattle.stabbing.specs.Exact.{exact_line, fan, first_line, line_through, tries}
-use Rattle.stabbing.proofs.Answers.{not_some, some_left, some_mapped, some_right, some_value, under}
-use Rattle.stabbing.proofs.Fronts.{path_front, stabbed_front}
-use Rattle.stabbing.proofs.Limited.{posts_limited, tries_limited}
-use Rattle.stabbing.proofs.Tries.{fan_more, tries_more}
+use Rattle.stabbing.specs.Answers.{not_some, some_left, some_mapped, some_right, some_value, under}
+use Rattle.stabbing.specs.Fronts.{path_front, stabbed_front}
+use Rattle.stabbing.specs.Limited.{posts_limited, tries_limited}
+use Rattle.stabbing.specs.Tries.{fan_more, tries_more}
 
 -- what the first that passes is
 first_is : {X : Type 0} (t : X → Bool) (P : X → Type 0) (xs : List X) (x : X) → All P xs → first t xs ≡ Some x → P x × (t x ≡ true)

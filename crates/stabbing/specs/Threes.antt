@@ -15,9 +15,9 @@ use Rattle.plane.proofs.Lists.{all_both}
 use Rattle.plane.proofs.Tests.{is_path_decides}
 use Rattle.stabbing.specs.Exact.{exact_line}
 use Rattle.stabbing.specs.Wedge.{all_stabbed, neighbours, threes, wedge_lets}
-use Rattle.stabbing.proofs.Answers.{some_mapped}
-use Rattle.stabbing.proofs.Found.{exact_decides}
-use Rattle.stabbing.proofs.Fronts.{path_front, stabbed_front}
+use Rattle.stabbing.specs.Answers.{some_mapped}
+use Rattle.stabbing.specs.Found.{exact_decides}
+use Rattle.stabbing.specs.Fronts.{path_front, stabbed_front}
 
 -- one turn of the loop over the places of a path
 pub neighbours_more : (p : List Quad) → 3 ≤ length p → neighbours p ≡ take 3 p ∷ neighbours (drop 1 p)

@@ -11,7 +11,7 @@ use Rattle.plane.specs.Tests.{is_path, separates}
 use Rattle.plane.proofs.StoredLine.{line_limits, line_proper}
 use Rattle.plane.proofs.Tests.{is_path_decides, separates_decides}
 use Rattle.stabbing.specs.Memory.{recalled}
-use Rattle.stabbing.proofs.Answers.{either, not_some, under}
+use Rattle.stabbing.specs.Answers.{either, not_some, under}
 
 -- a line that is recalled separates the path
 pub recalled_is : (h : Option Line) (p : List Quad) (l : Coefficients) → recalled h p ≡ Some l → Path p × Proper l × InLimits l × Separates l p
