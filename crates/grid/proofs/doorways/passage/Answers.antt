@@ -3,8 +3,8 @@ use Rattle.grid.specs.Doorways.{column, row}
 use Rattle.grid.proofs.Between.{rooms_above, rooms_beside, stands}
 use Rattle.grid.proofs.doorways.passage.Goals as goal
 
-pub to-the-right-requires : goal.to-the-right-requires
-to-the-right-requires c =
+pub to_the_right-requires : goal.to_the_right-requires
+to_the_right-requires c =
     let s = c.args.size in
     let k = c.args.k in
     let in' = stands s k c.requires.inside in

@@ -7,11 +7,11 @@ use Rattle.polygon.proofs.convexity.all_clear.Goals as goal
 pub loop-i-init : goal.loop-i-init
 loop-i-init c = below_none (clear (length c.args.ring.now / 2) (points c.args.ring.now))
 
-pub returns-then-not-is-clear : goal.returns-then-not-is-clear
-returns-then-not-is-clear c = all_of c.args.ring.now _ (below_not (clear (length c.args.ring.now / 2) (points c.args.ring.now)) (length c.args.ring.now / 2) c.loop-i.i c.loop-i-test.true (sym c.if-not-is-clear.ensures))
+pub returns-then-not-is_clear : goal.returns-then-not-is_clear
+returns-then-not-is_clear c = all_of c.args.ring.now _ (below_not (clear (length c.args.ring.now / 2) (points c.args.ring.now)) (length c.args.ring.now / 2) c.loop-i.i c.loop-i-test.true (sym c.if-not-is_clear.ensures))
 
 pub loop-i-preserved : goal.loop-i-preserved
-loop-i-preserved c = below_more (clear (length c.args.ring.now / 2) (points c.args.ring.now)) c.loop-i.i c.loop-i.invariant (sym c.if-not-is-clear.ensures)
+loop-i-preserved c = below_more (clear (length c.args.ring.now / 2) (points c.args.ring.now)) c.loop-i.i c.loop-i.invariant (sym c.if-not-is_clear.ensures)
 
 pub returns : goal.returns
 returns c =

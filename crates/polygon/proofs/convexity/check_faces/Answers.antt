@@ -5,15 +5,15 @@ use Rattle.polygon.specs.Convexity.{shapely}
 use Rattle.polygon.proofs.Turning.{shaped, unshaped}
 use Rattle.polygon.proofs.convexity.check_faces.Goals as goal
 
-pub returns-then-not-is-convex : goal.returns-then-not-is-convex
-returns-then-not-is-convex c =
-    let end = c.end-of-end.ensures in
-    ap Err c.new.ensures ∙ unshaped c.args.numbers.now c.loop-f.start (get_or c.args.sizes.now c.loop-f.f 0) c.end-of-end.result c.loop-f.invariant.1 end.within.0 end.whole end.cut (points c.args.corners.now) c.loop-f.f c.args.sizes.now _ c.loop-f.invariant.0 c.loop-f-test.true refl (sym c.if-not-is-convex.ensures)
+pub returns-then-not-is_convex : goal.returns-then-not-is_convex
+returns-then-not-is_convex c =
+    let end = c.end_of-end.ensures in
+    ap Err c.new.ensures ∙ unshaped c.args.numbers.now c.loop-f.start (get_or c.args.sizes.now c.loop-f.f 0) c.end_of-end.result c.loop-f.invariant.1 end.within.0 end.whole end.cut (points c.args.corners.now) c.loop-f.f c.args.sizes.now _ c.loop-f.invariant.0 c.loop-f-test.true refl (sym c.if-not-is_convex.ensures)
 
 pub loop-f-preserved : goal.loop-f-preserved
 loop-f-preserved c =
-    let end = c.end-of-end.ensures in (
-      shaped c.args.numbers.now c.loop-f.start (get_or c.args.sizes.now c.loop-f.f 0) c.end-of-end.result c.loop-f.invariant.1 end.within.0 end.whole end.cut (points c.args.corners.now) c.loop-f.f c.args.sizes.now _ c.loop-f.invariant.0 c.loop-f-test.true refl (sym c.if-not-is-convex.ensures),
+    let end = c.end_of-end.ensures in (
+      shaped c.args.numbers.now c.loop-f.start (get_or c.args.sizes.now c.loop-f.f 0) c.end_of-end.result c.loop-f.invariant.1 end.within.0 end.whole end.cut (points c.args.corners.now) c.loop-f.f c.args.sizes.now _ c.loop-f.invariant.0 c.loop-f-test.true refl (sym c.if-not-is_convex.ensures),
       end.within.1,
     )
 

@@ -6,7 +6,7 @@ use Rattle.polygon.proofs.Turning.{lay_step}
 use Rattle.polygon.proofs.convexity.lay.Goals as goal
 
 pub loop-k-preserved : goal.loop-k-preserved
-loop-k-preserved c = lay_step (points c.args.corners.now) c.args.face.now c.args.start c.loop-k.k c.loop-k.into (take c.args.start (points c.args.into.now)) c.corner-at.result (omega arith) c.loop-k-test.true c.loop-k.invariant c.corner-at.ensures
+loop-k-preserved c = lay_step (points c.args.corners.now) c.args.face.now c.args.start c.loop-k.k c.loop-k.into (take c.args.start (points c.args.into.now)) c.corner_at.result (omega arith) c.loop-k-test.true c.loop-k.invariant c.corner_at.ensures
 
 pub returns : goal.returns
 returns c =

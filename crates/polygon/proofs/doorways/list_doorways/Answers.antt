@@ -11,5 +11,5 @@ loop-e-init c =
 
 pub loop-e-preserved : goal.loop-e-preserved
 loop-e-preserved c =
-    subst (Holds c.put-count.new.space c.args.space.now c.put-count.result) (sym (doors_more (points c.args.corners.now) c.args.edges.now c.loop-e.e c.doorway-at-found.result c.doorway-at-found.ensures))
+    subst (Holds c.put-count.new.space c.args.space.now c.put-count.result) (sym (doors_more (points c.args.corners.now) c.args.edges.now c.loop-e.e c.doorway_at-found.result c.doorway_at-found.ensures))
     (c.put-count.ensures c.args.space.now _ c.loop-e.invariant)

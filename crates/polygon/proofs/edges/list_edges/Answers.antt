@@ -4,8 +4,8 @@ use Rattle.polygon.proofs.edges.list_edges.Goals as goal
 
 pub loop-f-preserved : goal.loop-f-preserved
 loop-f-preserved c =
-    let end = c.end-of-end.ensures in (
-      faces_step c.args.numbers.now c.loop-f.start (get_or c.args.sizes.now c.loop-f.f 0) c.end-of-end.result c.loop-f.invariant.1 end.within.0 end.within.1 end.whole end.cut c.loop-f.f c.args.sizes.now c.loop-f.table _ _ c.loop-f-test.true refl c.loop-f.invariant.0 c.list-face.ensures,
+    let end = c.end_of-end.ensures in (
+      faces_step c.args.numbers.now c.loop-f.start (get_or c.args.sizes.now c.loop-f.f 0) c.end_of-end.result c.loop-f.invariant.1 end.within.0 end.within.1 end.whole end.cut c.loop-f.f c.args.sizes.now c.loop-f.table _ _ c.loop-f-test.true refl c.loop-f.invariant.0 c.list_face.ensures,
       end.within.1,
     )
 

@@ -7,4 +7,4 @@ pub loop-i-init : goal.loop-i-init
 loop-i-init c = ap (λ n. take n c.args.table.now) (add-zero c.args.start) ∙ sym (append-nil (take c.args.start c.args.table.now)) ∙ ap (λ l. take c.args.start c.args.table.now ++ l) (sym (edges_none c.args.face.now c.args.f))
 
 pub loop-i-preserved : goal.loop-i-preserved
-loop-i-preserved c = list_step c.args.face.now c.args.f c.args.start c.loop-i.i c.loop-i.table _ _ (omega arith) c.loop-i.invariant c.edge-of.ensures
+loop-i-preserved c = list_step c.args.face.now c.args.f c.args.start c.loop-i.i c.loop-i.table _ _ (omega arith) c.loop-i.invariant c.edge_of.ensures

@@ -4,8 +4,8 @@ use Rattle.polygon.specs.Edges.{edge_at}
 use Rattle.polygon.proofs.Linking.{last_le, found, missed, passed, chained}
 use Rattle.polygon.proofs.chains.Chains.find.Goals as goal
 
-pub offset-bounds-edges-e : goal.offset-bounds-edges-e
-offset-bounds-edges-e c = let i = c.loop-link.invariant in omega (arith, last_le c.args.edges.now (c.args.u % 1024) i.0, i.1, i.2, c.requires.known, c.requires.few)
+pub offset_bounds-edges-e : goal.offset_bounds-edges-e
+offset_bounds-edges-e c = let i = c.loop-link.invariant in omega (arith, last_le c.args.edges.now (c.args.u % 1024) i.0, i.1, i.2, c.requires.known, c.requires.few)
 
 pub bounds-edges-e : goal.bounds-edges-e
 bounds-edges-e c = let i = c.loop-link.invariant in omega (arith, last_le c.args.edges.now (c.args.u % 1024) i.0, i.1, i.2, c.requires.known, c.loop-link-test.true)
@@ -13,8 +13,8 @@ bounds-edges-e c = let i = c.loop-link.invariant in omega (arith, last_le c.args
 pub returns-then-runs : goal.returns-then-runs
 returns-then-runs c = let i = c.loop-link.invariant in found c.args.edges.now c.args.u c.args.v i.0 c.loop-link.link _ i.2 i.3 c.loop-link-test.true (sym c.if-runs.ensures)
 
-pub offset-bounds-self-e : goal.offset-bounds-self-e
-offset-bounds-self-e c = let i = c.loop-link.invariant in omega (arith, last_le c.args.edges.now (c.args.u % 1024) i.0, i.1, i.2, c.requires.known, c.requires.few)
+pub offset_bounds-self-e : goal.offset_bounds-self-e
+offset_bounds-self-e c = let i = c.loop-link.invariant in omega (arith, last_le c.args.edges.now (c.args.u % 1024) i.0, i.1, i.2, c.requires.known, c.requires.few)
 
 pub bounds-self-e : goal.bounds-self-e
 bounds-self-e c = let i = c.loop-link.invariant in omega (arith, last_le c.args.edges.now (c.args.u % 1024) i.0, i.1, i.2, c.requires.known, c.requires.few, c.loop-link-test.true)
