@@ -30,9 +30,9 @@ returns g c =
     let low : (t : Trip) → In t ts → t.room / 8 < length v.bytes = λ t i.
     let l = walk_inside w (g.met.M.Map.inside m) a t.doors t.room t.path c.requires.room (order.due t i).walk in
     omega (arith, l, wide, g.met.M.Map.bounded m) in
-    let all = c.search-from.ensures.toured in
+    let all = c.search_from.ensures.toured in
     let both = toured_row lets asked g.met.S.Stabber.steady w s v ts refl low in
-    let row : shown c.search-from.new.visitor.bytes ≡ shown_all w (with none a) ts =
+    let row : shown c.search_from.new.visitor.bytes ≡ shown_all w (with none a) ts =
     ap (λ x. shown x.1.bytes) all ∙ both.1 ∙ ap (λ (r : Numbers). shown_all w r ts) start in
     record {
       value = λ x. (
@@ -40,5 +40,5 @@ returns g c =
         λ t. ap (λ (r : Numbers). r x) row ∙ true_shown w (g.met.M.Map.inside m) (g.met.S.Stabber.prefix s) shut a x [] t,
       );
       asked = ap (λ x. x.0) all ∙ both.0;
-      lets = c.search-from.ensures.lets;
+      lets = c.search_from.ensures.lets;
     }

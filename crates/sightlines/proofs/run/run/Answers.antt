@@ -9,8 +9,8 @@ use Rattle.sightlines.proofs.Portals.{sees_lined}
 use Rattle.sightlines.proofs.Walked.{fresh_stands}
 use Rattle.sightlines.proofs.run.run.Goals as goal
 
-pub serve-all-requires : goal.serve-all-requires
-serve-all-requires g c = fresh_stands _ (state_of c.new-table.result) c.new-table.ensures.shut c.new-table.ensures.filled
+pub serve_all-requires : goal.serve_all-requires
+serve_all-requires g c = fresh_stands _ (state_of c.new-table.result) c.new-table.ensures.shut c.new-table.ensures.filled
 
 pub returns : goal.returns
 returns g c =
@@ -23,8 +23,8 @@ returns g c =
     ap (λ x. world (g.M.Map.rooms x) (g.M.Map.doorways x) (g.S.Stabber.lets t.stabber)) c.new-table.ensures.owns.0
     ∙ ap (λ x. world (g.M.Map.rooms m) (g.M.Map.doorways m) (g.S.Stabber.lets x)) c.new-table.ensures.owns.1 in
     record {
-      answered = subst (λ (z : World). (i : ℕ) → i < length old → HoldsAt (λ o. HoldsAt (λ p. Answered false z (reverse (take i (calls_of old))) o p) c.serve-all.new.orders i) old i) same
-          c.serve-all.ensures.answered;
-      stands = subst (λ (z : World). Stands z (reverse (calls_of old)) (state_of c.serve-all.new.desk)) same c.serve-all.ensures.stands;
+      answered = subst (λ (z : World). (i : ℕ) → i < length old → HoldsAt (λ o. HoldsAt (λ p. Answered false z (reverse (take i (calls_of old))) o p) c.serve_all.new.orders i) old i) same
+          c.serve_all.ensures.answered;
+      stands = subst (λ (z : World). Stands z (reverse (calls_of old)) (state_of c.serve_all.new.desk)) same c.serve_all.ensures.stands;
       complete = λ h a b v. lined_true w (g.met.M.Map.inside m) (g.met.M.Map.bounded m) (g.met.S.Stabber.stabbed s) _ a b (sees_lined w _ a b v);
     }

@@ -7,7 +7,7 @@ use Rattle.sightlines.proofs.Questions.{upto}
 use Rattle.sightlines.proofs.Turns.{turn_at, turn_ended, turn_none, turn_no, turn_yes, turn_fewer, turn_past, turn_place, room_inside}
 use Rattle.sightlines.proofs.search.+search.Invariants.{setting}
 use Rattle.sightlines.proofs.search.+search.Goals as goal
-use Rattle.sightlines.proofs.search.+search.Goals.{in-Some+then-visit, in-Some+else-visit, in-default}
+use Rattle.sightlines.proofs.search.+search.Goals.{in-Some+then-visit, in-Some+else-visit, in_default}
 
 pub bounds-doors-depth : goal.bounds-doors-depth
 bounds-doors-depth g t c =
@@ -21,15 +21,15 @@ bounds-path-depth g t c =
     c.loop-k.k c.loop-k.stabber c.loop-k.visitor c.loop-k.entered c.loop-k.doors c.loop-k.path c.loop-k.invariant.1
     c.in-Some.room c.in-Some.quad c.in-Some.ensures (omega arith) c.requires.path c.requires.doors).0
 
-pub slice-bounds-visit-end : goal.slice-bounds-visit-end
-slice-bounds-visit-end g t c =
+pub slice_bounds-visit-end : goal.slice_bounds-visit-end
+slice_bounds-visit-end g t c =
     let l : c.args.depth < length c.loop-k.doors = (turn_place (setting g c.args.map.now c.args.shut.now c.args.here c.args.depth c.args.stabber.now c.args.visitor.now c.args.entered.now c.args.doors.now c.args.path.now)
     c.loop-k.k c.loop-k.stabber c.loop-k.visitor c.loop-k.entered c.loop-k.doors c.loop-k.path c.loop-k.invariant.1
     c.in-Some.room c.in-Some.quad c.in-Some.ensures (omega arith) c.requires.path c.requires.doors).1 in
     simp length-set (omega arith)
 
-pub slice-bounds-visit-end-in-Some : goal.slice-bounds-visit-end-in-Some
-slice-bounds-visit-end-in-Some g t c =
+pub slice_bounds-visit-end-in-Some : goal.slice_bounds-visit-end-in-Some
+slice_bounds-visit-end-in-Some g t c =
     let l : c.args.depth < length c.loop-k.path = (turn_place (setting g c.args.map.now c.args.shut.now c.args.here c.args.depth c.args.stabber.now c.args.visitor.now c.args.entered.now c.args.doors.now c.args.path.now)
     c.loop-k.k c.loop-k.stabber c.loop-k.visitor c.loop-k.entered c.loop-k.doors c.loop-k.path c.loop-k.invariant.1
     c.in-Some.room c.in-Some.quad c.in-Some.ensures (omega arith) c.requires.path c.requires.doors).0 in
@@ -77,7 +77,7 @@ loop-k-preserved g t c =
             (turn_place (setting g c.args.map.now c.args.shut.now c.args.here c.args.depth c.args.stabber.now c.args.visitor.now c.args.entered.now c.args.doors.now c.args.path.now)
             c.loop-k.k c.loop-k.stabber c.loop-k.visitor c.loop-k.entered c.loop-k.doors c.loop-k.path c.loop-k.invariant.1
             w.in-Some.room w.in-Some.quad w.in-Some.ensures (omega arith) c.requires.path c.requires.doors)
-            (sym c.has-ended.ensures ∙ c.if-has-ended.false)
+            (sym c.has_ended.ensures ∙ c.if-has_ended.false)
             record {
               doors = take (c.args.depth + 1 - 0) (set c.loop-k.doors c.args.depth c.loop-k.k);
               room = w.in-Some.room;
@@ -96,7 +96,7 @@ loop-k-preserved g t c =
             (turn_place (setting g c.args.map.now c.args.shut.now c.args.here c.args.depth c.args.stabber.now c.args.visitor.now c.args.entered.now c.args.doors.now c.args.path.now)
             c.loop-k.k c.loop-k.stabber c.loop-k.visitor c.loop-k.entered c.loop-k.doors c.loop-k.path c.loop-k.invariant.1
             w.in-Some.room w.in-Some.quad w.in-Some.ensures (omega arith) c.requires.path c.requires.doors)
-            (sym c.has-ended.ensures ∙ c.if-has-ended.false)
+            (sym c.has_ended.ensures ∙ c.if-has_ended.false)
             record {
               doors = take (c.args.depth + 1 - 0) (set c.loop-k.doors c.args.depth c.loop-k.k);
               room = w.in-Some.room;
@@ -105,9 +105,9 @@ loop-k-preserved g t c =
             (ap (λ j. take j (set c.loop-k.doors c.args.depth c.loop-k.k)) (omega arith)) refl
             (ap (λ j. take j (set c.loop-k.path c.args.depth w.in-Some.quad)) (omega arith))
             (sym w.visit.ensures.value ∙ w.if-visit.false))
-        | in-default w ↦ at _ _ _ _ _ _ _ _ _ _ w.stabber-is w.visitor-is w.entered-is w.doors-is w.path-is
+        | in_default w ↦ at _ _ _ _ _ _ _ _ _ _ w.stabber-is w.visitor-is w.entered-is w.doors-is w.path-is
             (turn_none (setting g c.args.map.now c.args.shut.now c.args.here c.args.depth c.args.stabber.now c.args.visitor.now c.args.entered.now c.args.doors.now c.args.path.now)
-            c.loop-k.k c.loop-k.stabber c.loop-k.visitor c.loop-k.entered c.loop-k.doors c.loop-k.path c.loop-k.invariant.1 w.in-default.ensures)
+            c.loop-k.k c.loop-k.stabber c.loop-k.visitor c.loop-k.entered c.loop-k.doors c.loop-k.path c.loop-k.invariant.1 w.in_default.ensures)
       ]) c.after-k.ensures,
     )
 
@@ -116,17 +116,17 @@ loop-k-init g t c =
     (c.begin-k.ensures.1, turn_past (setting g c.args.map.now c.args.shut.now c.args.here c.args.depth c.args.stabber.now c.args.visitor.now c.args.entered.now c.args.doors.now c.args.path.now) 0 c.begin-k.result _ _ _ _ _ (refl, refl, refl, refl, refl, refl, refl) c.begin-k.ensures)
 
 pub loop-k-smaller : goal.loop-k-smaller
-loop-k-smaller g t c = let l = c.after-k.ensures.0 in omega (arith, c.after-k.ensures.1, c.doorway-count-count.ensures)
+loop-k-smaller g t c = let l = c.after-k.ensures.0 in omega (arith, c.after-k.ensures.1, c.doorway_count-count.ensures)
 
-pub returns-then-has-ended : goal.returns-then-has-ended
-returns-then-has-ended g t c = record {
+pub returns-then-has_ended : goal.returns-then-has_ended
+returns-then-has_ended g t c = record {
   entered = c.loop-k.invariant.1.0;
   doors = c.loop-k.invariant.1.1;
   path = c.loop-k.invariant.1.3;
   lets = c.loop-k.invariant.1.5;
   toured = turn_ended (setting g c.args.map.now c.args.shut.now c.args.here c.args.depth c.args.stabber.now c.args.visitor.now c.args.entered.now c.args.doors.now c.args.path.now)
       c.loop-k.k c.loop-k.stabber c.loop-k.visitor c.loop-k.entered c.loop-k.doors c.loop-k.path c.loop-k.invariant.1
-      (sym c.has-ended.ensures ∙ c.if-has-ended.true) (length (g.M.Map.doorways c.args.map.now)) (omega arith);
+      (sym c.has_ended.ensures ∙ c.if-has_ended.true) (length (g.M.Map.doorways c.args.map.now)) (omega arith);
 }
 
 pub returns : goal.returns

@@ -9,9 +9,9 @@ use Rattle.sightlines.proofs.search.search_from.Goals as goal
 pub search-requires : goal.search-requires
 search-requires g c =
     let few = g.met.M.Map.bounded c.args.map.now in
-    let long = c.no-rooms-entered.ensures.long in
-    let e1 = length-set c.no-rooms-entered.result c.args.a true in
-    let e2 = number_le (g.M.Map.rooms c.args.map.now) (λ x. not (marks (set c.no-rooms-entered.result c.args.a true) x)) in
+    let long = c.no_rooms-entered.ensures.long in
+    let e1 = length-set c.no_rooms-entered.result c.args.a true in
+    let e2 = number_le (g.M.Map.rooms c.args.map.now) (λ x. not (marks (set c.no_rooms-entered.result c.args.a true) x)) in
     record { index = c.new-index.ensures; shut = c.requires.shut; entered = omega arith; doors = omega arith; path = omega arith }
 
 pub returns : goal.returns
@@ -21,8 +21,8 @@ returns g c =
     let v = g.V.Visitor in
     let w = world (g.M.Map.rooms m) (g.M.Map.doorways m) (v.lets s) in
     let a = c.args.a in
-    let long : a < length c.no-rooms-entered.result = omega (arith, c.no-rooms-entered.ensures.long) in
-    let one : marks (set c.no-rooms-entered.result a true) ≡ only a = marks_only c.no-rooms-entered.result a c.no-rooms-entered.ensures.value long in
+    let long : a < length c.no_rooms-entered.result = omega (arith, c.no_rooms-entered.ensures.long) in
+    let one : marks (set c.no_rooms-entered.result a true) ≡ only a = marks_only c.no_rooms-entered.result a c.no_rooms-entered.ensures.value long in
     record {
       lets = c.search.ensures.lets;
       toured = c.search.ensures.toured

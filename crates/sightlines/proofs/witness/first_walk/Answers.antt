@@ -21,11 +21,11 @@ returns g c =
     let order = in_order w shut (g.met.M.Map.inside m) (g.met.S.Stabber.prefix s) (empty_let (lets s) (g.met.S.Stabber.stabbed s)) a in
     let ends = quest_ends lets g.S.Sharp.lined g.S.Sharp.line g.met.S.Sharp.sharp g.met.S.Sharp.steady w
     (g.met.M.Map.inside m) (g.met.S.Stabber.prefix s) (g.met.M.Map.bounded m)
-    s c.search-from.new.stabber refl c.new-quest.result c.search-from.new.visitor fresh.1 fresh.2 fresh.3
-    shut a c.requires.room (λ e. c.requires.apart (e ∙ fresh.0)) (due w shut (only a) a [] []) order c.search-from.ensures.toured in
+    s c.search_from.new.stabber refl c.new-quest.result c.search_from.new.visitor fresh.1 fresh.2 fresh.3
+    shut a c.requires.room (λ e. c.requires.apart (e ∙ fresh.0)) (due w shut (only a) a [] []) order c.search_from.ensures.toured in
     record {
-      value = subst (λ (b : ℕ). Told w shut a b (g.S.Sharp.line (asked_all g.S.Sharp.lined s (ahead (leads w b) (due w shut (only a) a [] [])))) c.search-from.new.visitor.line (take c.search-from.new.visitor.count c.search-from.new.visitor.doors)) fresh.0 ends.0.0;
+      value = subst (λ (b : ℕ). Told w shut a b (g.S.Sharp.line (asked_all g.S.Sharp.lined s (ahead (leads w b) (due w shut (only a) a [] [])))) c.search_from.new.visitor.line (take c.search_from.new.visitor.count c.search_from.new.visitor.doors)) fresh.0 ends.0.0;
       count = (ends.0.1, ends.0.2);
       asked = ends.1 ∙ ap (λ (b : ℕ). asked_all g.S.Sharp.lined s (until (leads w b) (due w shut (only a) a [] []))) fresh.0;
-      lets = c.search-from.ensures.lets;
+      lets = c.search_from.ensures.lets;
     }

@@ -12,9 +12,9 @@ use Rattle.visibility.proofs.fill.true_row.Goals as goal
 pub search-requires : goal.search-requires
 search-requires g c =
     let few = g.met.M.Map.bounded c.args.map.now in
-    let long = c.no-rooms-entered.ensures.long in
-    let e1 = length-set c.no-rooms-entered.result c.args.a true in
-    let e2 = number_le (g.M.Map.rooms c.args.map.now) (λ x. not (marks (set c.no-rooms-entered.result c.args.a true) x)) in
+    let long = c.no_rooms-entered.ensures.long in
+    let e1 = length-set c.no_rooms-entered.result c.args.a true in
+    let e2 = number_le (g.M.Map.rooms c.args.map.now) (λ x. not (marks (set c.no_rooms-entered.result c.args.a true) x)) in
     record { shut = c.requires; entered = omega arith; path = omega arith }
 
 pub returns : goal.returns
@@ -24,11 +24,11 @@ returns g c =
     let w = world (g.M.Map.rooms m) (g.M.Map.doorways m) (g.S.Stabber.lets s) in
     let shut = marks c.args.shut.now in
     let a = c.args.a in
-    let long : a < length c.no-rooms-entered.result = omega (arith, c.no-rooms-entered.ensures.long) in
-    let one : marks (set c.no-rooms-entered.result a true) ≡ only a = marks_only c.no-rooms-entered.result a c.no-rooms-entered.ensures.value long in
+    let long : a < length c.no_rooms-entered.result = omega (arith, c.no_rooms-entered.ensures.long) in
+    let one : marks (set c.no_rooms-entered.result a true) ≡ only a = marks_only c.no_rooms-entered.result a c.no_rooms-entered.ensures.value long in
     let start : shown c.mark.new.self.bytes ≡ with none a = c.mark.ensures ∙ ap (λ (v : Numbers). with v a) c.new-row.ensures in
     let row : shown c.search.new.row.bytes ≡ shown_all w (with none a) (due w shut (only a) a [] []) =
-    c.search.ensures.shown [] ∙ ap (λ (v : Numbers). shown_all w v (due w shut (marks (set c.no-rooms-entered.result a true)) a [] [])) start
+    c.search.ensures.shown [] ∙ ap (λ (v : Numbers). shown_all w v (due w shut (marks (set c.no_rooms-entered.result a true)) a [] [])) start
     ∙ ap (λ (e : Numbers). shown_all w (with none a) (due w shut e a [] [])) one in
     record {
       value = λ x. (

@@ -10,21 +10,21 @@ pub returns : goal.returns
 returns g c =
     let t = c.args.self.now.table in
     let o = c.args.order.now in
-    let u = c.reply-sharp-answer.new.self in
+    let u = c.reply_sharp-answer.new.self in
     record {
       value = λ h st. record {
-        answer = c.reply-sharp-answer.result;
+        answer = c.reply_sharp-answer.result;
         is_answer = refl;
-        replied = subst₂ (Replied true (world (g.M.Map.rooms t.map) (g.M.Map.doorways t.map) (g.S.Stabber.lets t.stabber)) h o.call c.reply-sharp-answer.result)
-            (space_is _ _ _ _ c.as-mut-slice.ensures.value c.as-mut-slice-2.ensures.value)
+        replied = subst₂ (Replied true (world (g.M.Map.rooms t.map) (g.M.Map.doorways t.map) (g.S.Stabber.lets t.stabber)) h o.call c.reply_sharp-answer.result)
+            (space_is _ _ _ _ c.as_mut_slice.ensures.value c.as_mut_slice-2.ensures.value)
             (space_is _ _ _ _
-            (sym (with_items_is o.doorways c.reply-sharp-answer.new.doorways (c.reply-sharp-answer.auto.doorways ∙ c.as-mut-slice.ensures.len)))
-            (sym (with_items_is o.bytes c.reply-sharp-answer.new.bytes (c.reply-sharp-answer.auto.bytes ∙ c.as-mut-slice-2.ensures.len))))
-            (c.reply-sharp-answer.ensures.value h st);
+            (sym (with_items_is o.doorways c.reply_sharp-answer.new.doorways (c.reply_sharp-answer.auto.doorways ∙ c.as_mut_slice.ensures.len)))
+            (sym (with_items_is o.bytes c.reply_sharp-answer.new.bytes (c.reply_sharp-answer.auto.bytes ∙ c.as_mut_slice-2.ensures.len))))
+            (c.reply_sharp-answer.ensures.value h st);
         call = refl;
       };
-      after = c.reply-sharp-answer.ensures.after;
-      world = ap (λ m. world (g.M.Map.rooms m) (g.M.Map.doorways m) (g.S.Stabber.lets u.stabber)) c.reply-sharp-answer.ensures.map
-          ∙ ap (λ (l : List Quad → Bool). world (g.M.Map.rooms t.map) (g.M.Map.doorways t.map) l) c.reply-sharp-answer.ensures.lets;
+      after = c.reply_sharp-answer.ensures.after;
+      world = ap (λ m. world (g.M.Map.rooms m) (g.M.Map.doorways m) (g.S.Stabber.lets u.stabber)) c.reply_sharp-answer.ensures.map
+          ∙ ap (λ (l : List Quad → Bool). world (g.M.Map.rooms t.map) (g.M.Map.doorways t.map) l) c.reply_sharp-answer.ensures.lets;
       sharp = refl;
     }

@@ -16,8 +16,8 @@ returns g c =
         answer = c.reply-answer.result;
         is_answer = refl;
         replied = subst₂ (Replied false (world (g.M.Map.rooms t.map) (g.M.Map.doorways t.map) (g.S.Stabber.lets t.stabber)) h o.call c.reply-answer.result)
-            (space_is _ _ _ _ refl c.as-mut-slice.ensures.value)
-            (space_is _ _ _ _ refl (sym (with_items_is o.bytes c.reply-answer.new.bytes (c.reply-answer.auto.bytes ∙ c.as-mut-slice.ensures.len))))
+            (space_is _ _ _ _ refl c.as_mut_slice.ensures.value)
+            (space_is _ _ _ _ refl (sym (with_items_is o.bytes c.reply-answer.new.bytes (c.reply-answer.auto.bytes ∙ c.as_mut_slice.ensures.len))))
             (c.reply-answer.ensures.value h st (vec_items o.doorways));
         call = refl;
       };

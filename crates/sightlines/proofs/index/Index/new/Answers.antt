@@ -5,23 +5,23 @@ use Rattle.sightlines.specs.Indexes.{entered_in}
 use Rattle.sightlines.proofs.Indexing.{Entered, entered_none, entered_more, entered_all, missing}
 use Rattle.sightlines.proofs.Steps.{all_nth}
 use Rattle.sightlines.proofs.index.Index.new.Goals as goal
-use Rattle.sightlines.proofs.index.Index.new.Goals.{in-Some, in-default}
+use Rattle.sightlines.proofs.index.Index.new.Goals.{in-Some, in_default}
 
 pub loop-i-init : goal.loop-i-init
 loop-i-init g c =
     let ds = g.M.Map.doorways c.args.map.now in
     let z : length ds ≡ length ds - 0 = omega arith in
-    subst (λ (m : ℕ). Entered ds m (record { first = c.for-rooms-first.result; near = c.for-doorways-near.result; far = c.for-doorways-far.result })) z
-    (entered_none ds (record { first = c.for-rooms-first.result; near = c.for-doorways-near.result; far = c.for-doorways-far.result })
-    (c.for-rooms-first.ensures ∙ ap (replicate 256) c.doorway-count-count.ensures) c.for-doorways-near.ensures c.for-doorways-far.ensures)
+    subst (λ (m : ℕ). Entered ds m (record { first = c.for_rooms-first.result; near = c.for_doorways-near.result; far = c.for_doorways-far.result })) z
+    (entered_none ds (record { first = c.for_rooms-first.result; near = c.for_doorways-near.result; far = c.for_doorways-far.result })
+    (c.for_rooms-first.ensures ∙ ap (replicate 256) c.doorway_count-count.ensures) c.for_doorways-near.ensures c.for_doorways-far.ensures)
 
 pub loop-i-preserved : goal.loop-i-preserved
 loop-i-preserved g c =
     let ds = g.M.Map.doorways c.args.map.now in
-    let n : c.doorway-count-count.result ≡ length ds = c.doorway-count-count.ensures in
+    let n : c.doorway_count-count.result ≡ length ds = c.doorway_count-count.ensures in
     let i = c.loop-i.i in
     let x = c.loop-i.index in
-    let k = c.doorway-count-count.result - 1 - i in
+    let k = c.doorway_count-count.result - 1 - i in
     let few = g.met.M.Map.few c.args.map.now in
     let bounded = g.met.M.Map.bounded c.args.map.now in
     let next : k ≡ length ds - (i + 1) = omega arith in
@@ -34,11 +34,11 @@ loop-i-preserved g c =
           let within = all_nth _ ds k d (g.met.M.Map.inside c.args.map.now) is in
           subst₂ (Entered ds) next (sym (w.index-is ∙ w.enter.ensures))
           (entered_more ds k x d is (omega arith) (omega (arith, within.0)) (omega (arith, within.1)) was)
-      | in-default w ↦ absurd (missing ds k (sym w.in-default.ensures) (omega arith))
+      | in_default w ↦ absurd (missing ds k (sym w.in_default.ensures) (omega arith))
     ]
 
 pub returns : goal.returns
 returns g c =
     let ds = g.M.Map.doorways c.args.map.now in
-    let z : length ds - c.loop-i.i ≡ 0 = omega (arith, c.doorway-count-count.ensures) in
+    let z : length ds - c.loop-i.i ≡ 0 = omega (arith, c.doorway_count-count.ensures) in
     entered_all ds c.loop-i.index (subst (λ (m : ℕ). Entered ds m c.loop-i.index) z c.loop-i.invariant)

@@ -5,8 +5,8 @@ use Rattle.sightlines.specs.Sights.{sight}
 use Rattle.sightlines.proofs.Bitmaps.{pixels_none, part_within, part_written}
 use Rattle.sightlines.proofs.rows.Rows.write.Goals as goal
 
-pub slice-bounds-write-end : goal.slice-bounds-write-end
-slice-bounds-write-end c = omega (arith, part_within c.loop-a.a c.args.n (width c.args.n) c.loop-a-test.true)
+pub slice_bounds-write-end : goal.slice_bounds-write-end
+slice_bounds-write-end c = omega (arith, part_within c.loop-a.a c.args.n (width c.args.n) c.loop-a-test.true)
 
 pub loop-a-init : goal.loop-a-init
 loop-a-init c =

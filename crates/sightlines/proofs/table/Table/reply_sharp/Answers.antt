@@ -32,9 +32,9 @@ returns-in-Witness g c =
       lets = c.witness.ensures.lets;
     }
 
-pub returns-in-default : goal.returns-in-default
-returns-in-default g c = record {
-  value = λ h st. replied_sharp _ h c.args.call c.reply.result _ _ (λ a b e. c.in-default.not-Witness a b e) (c.reply.ensures.value h st c.args.doorways.now);
+pub returns-in_default : goal.returns-in_default
+returns-in_default g c = record {
+  value = λ h st. replied_sharp _ h c.args.call c.reply.result _ _ (λ a b e. c.in_default.not-Witness a b e) (c.reply.ensures.value h st c.args.doorways.now);
   after = c.reply.ensures.after;
   map = c.reply.ensures.map;
   lets = c.reply.ensures.lets;

@@ -56,8 +56,8 @@ returns-else-self-k g c =
             is_doorway = sym c.in-Some.ensures;
             shut = marks_place t.closed c.args.k c.args.v wide;
             shows = ap (λ (v : List Row). sight v) c.unfill.ensures.rows;
-            filled = λ a i. c.unfill.ensures.filled a (omega (arith, c.room-count-rooms.ensures));
-            count = c.unfill.ensures.value ∙ ap (λ (n : ℕ). number n (both (marks t.rows.filled) (touches (sight t.rows.rows) c.in-Some.doorway.near c.in-Some.doorway.far))) c.room-count-rooms.ensures;
+            filled = λ a i. c.unfill.ensures.filled a (omega (arith, c.room_count-rooms.ensures));
+            count = c.unfill.ensures.value ∙ ap (λ (n : ℕ). number n (both (marks t.rows.filled) (touches (sight t.rows.rows) c.in-Some.doorway.near c.in-Some.doorway.far))) c.room_count-rooms.ensures;
           };
       owns = (refl, refl);
     }

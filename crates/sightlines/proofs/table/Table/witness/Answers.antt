@@ -22,7 +22,7 @@ returns-then-a-rooms g c =
     let f = g.S.Sharp.line (asked_all g.S.Sharp.lined s (ahead (leads w c.args.b) ts)) in
     let o = no_witness w c.args.a c.args.b (length c.args.space.now) in
     let order = in_order w shut (g.met.M.Map.inside t.map) (g.met.S.Stabber.prefix s) (empty_let (g.S.Stabber.lets s) (g.met.S.Stabber.stabbed s)) c.args.a in
-    let n : c.room-count-rooms.result ≡ g.M.Map.rooms t.map = c.room-count-rooms.ensures in
+    let n : c.room_count-rooms.result ≡ g.M.Map.rooms t.map = c.room_count-rooms.ensures in
     let h : o ≡ Some NoSuchRoom = witness_missing w c.args.a c.args.b (length c.args.space.now) (⊎_elim (λ x. inl (omega (arith, x))) (λ x. inr (omega (arith, x.1))) c.then-a-rooms.either) in
     record {
       value = witness_refused w shut c.args.a c.args.b f o c.args.space.now NoSuchRoom h;
@@ -43,7 +43,7 @@ returns-then-a-b g c =
     let f = g.S.Sharp.line (asked_all g.S.Sharp.lined s (ahead (leads w c.args.b) ts)) in
     let o = no_witness w c.args.a c.args.b (length c.args.space.now) in
     let order = in_order w shut (g.met.M.Map.inside t.map) (g.met.S.Stabber.prefix s) (empty_let (g.S.Stabber.lets s) (g.met.S.Stabber.stabbed s)) c.args.a in
-    let n : c.room-count-rooms.result ≡ g.M.Map.rooms t.map = c.room-count-rooms.ensures in
+    let n : c.room_count-rooms.result ≡ g.M.Map.rooms t.map = c.room_count-rooms.ensures in
     let h : o ≡ Some SameRoomTwice = witness_same w c.args.a c.args.b (length c.args.space.now) (omega arith) (omega arith) c.if-a-b.true in
     record {
       value = witness_refused w shut c.args.a c.args.b f o c.args.space.now SameRoomTwice h;
@@ -64,7 +64,7 @@ returns-then-space-rooms g c =
     let f = g.S.Sharp.line (asked_all g.S.Sharp.lined s (ahead (leads w c.args.b) ts)) in
     let o = no_witness w c.args.a c.args.b (length c.args.space.now) in
     let order = in_order w shut (g.met.M.Map.inside t.map) (g.met.S.Stabber.prefix s) (empty_let (g.S.Stabber.lets s) (g.met.S.Stabber.stabbed s)) c.args.a in
-    let n : c.room-count-rooms.result ≡ g.M.Map.rooms t.map = c.room-count-rooms.ensures in
+    let n : c.room_count-rooms.result ≡ g.M.Map.rooms t.map = c.room_count-rooms.ensures in
     let h : o ≡ Some SpaceTooShort = witness_short w c.args.a c.args.b (length c.args.space.now) (omega arith) (omega arith) c.if-a-b.false (omega arith) in
     record {
       value = witness_refused w shut c.args.a c.args.b f o c.args.space.now SpaceTooShort h;
@@ -85,24 +85,24 @@ returns-in-Some g c =
     let f = g.S.Sharp.line (asked_all g.S.Sharp.lined s (ahead (leads w c.args.b) ts)) in
     let o = no_witness w c.args.a c.args.b (length c.args.space.now) in
     let order = in_order w shut (g.met.M.Map.inside t.map) (g.met.S.Stabber.prefix s) (empty_let (g.S.Stabber.lets s) (g.met.S.Stabber.stabbed s)) c.args.a in
-    let n : c.room-count-rooms.result ≡ g.M.Map.rooms t.map = c.room-count-rooms.ensures in
+    let n : c.room_count-rooms.result ≡ g.M.Map.rooms t.map = c.room_count-rooms.ensures in
     let some = g.met.M.Map.inhabited t.map in
     let h : o ≡ None = witness_free w c.args.a c.args.b (length c.args.space.now) (omega arith) (omega arith) c.if-a-b.false (omega arith) in
-    let q = c.first-walk-quest.result in
+    let q = c.first_walk-quest.result in
     record {
       value =
           let ks = take q.count q.doors in
-          let long : length ks ≡ q.count = length-take-le q.count q.doors (omega (arith, c.first-walk-quest.ensures.count.0, c.first-walk-quest.ensures.count.1, g.met.M.Map.bounded t.map)) in
+          let long : length ks ≡ q.count = length-take-le q.count q.doors (omega (arith, c.first_walk-quest.ensures.count.0, c.first_walk-quest.ensures.count.1, g.met.M.Map.bounded t.map)) in
           witness_found w shut c.args.a c.args.b f o c.args.space.now (record { line = c.in-Some.line; doorways = q.count }) ks c.copy.new.space h
-          (subst (λ (x : Option Coefficients). Told w shut c.args.a c.args.b f x ks) c.in-Some.is c.first-walk-quest.ensures.value)
+          (subst (λ (x : Option Coefficients). Told w shut c.args.a c.args.b f x ks) c.in-Some.is c.first_walk-quest.ensures.value)
           (λ p e. g.met.S.Sharp.separates _ p c.in-Some.line e)
-          (sym long) (omega (arith, long, c.first-walk-quest.ensures.count.0))
+          (sym long) (omega (arith, long, c.first_walk-quest.ensures.count.0))
           (c.copy.ensures ∙ ap (λ (j : ℕ). over (take j q.doors) c.args.space.now) (omega arith));
-      asked = asked_granted o s (asked_all g.S.Sharp.lined s (until (leads w c.args.b) ts)) _ h c.first-walk-quest.ensures.asked;
+      asked = asked_granted o s (asked_all g.S.Sharp.lined s (until (leads w c.args.b) ts)) _ h c.first_walk-quest.ensures.asked;
       order = order;
       same = refl;
       map = refl;
-      lets = c.first-walk-quest.ensures.lets;
+      lets = c.first_walk-quest.ensures.lets;
     }
 
 pub returns-in-None : goal.returns-in-None
@@ -115,16 +115,16 @@ returns-in-None g c =
     let f = g.S.Sharp.line (asked_all g.S.Sharp.lined s (ahead (leads w c.args.b) ts)) in
     let o = no_witness w c.args.a c.args.b (length c.args.space.now) in
     let order = in_order w shut (g.met.M.Map.inside t.map) (g.met.S.Stabber.prefix s) (empty_let (g.S.Stabber.lets s) (g.met.S.Stabber.stabbed s)) c.args.a in
-    let n : c.room-count-rooms.result ≡ g.M.Map.rooms t.map = c.room-count-rooms.ensures in
+    let n : c.room_count-rooms.result ≡ g.M.Map.rooms t.map = c.room_count-rooms.ensures in
     let some = g.met.M.Map.inhabited t.map in
     let h : o ≡ None = witness_free w c.args.a c.args.b (length c.args.space.now) (omega arith) (omega arith) c.if-a-b.false (omega arith) in
-    let q = c.first-walk-quest.result in
+    let q = c.first_walk-quest.result in
     record {
       value = witness_none w shut c.args.a c.args.b f o c.args.space.now h
-          (subst (λ (x : Option Coefficients). Told w shut c.args.a c.args.b f x (take q.count q.doors)) c.in-None.is c.first-walk-quest.ensures.value);
-      asked = asked_granted o s (asked_all g.S.Sharp.lined s (until (leads w c.args.b) ts)) _ h c.first-walk-quest.ensures.asked;
+          (subst (λ (x : Option Coefficients). Told w shut c.args.a c.args.b f x (take q.count q.doors)) c.in-None.is c.first_walk-quest.ensures.value);
+      asked = asked_granted o s (asked_all g.S.Sharp.lined s (until (leads w c.args.b) ts)) _ h c.first_walk-quest.ensures.asked;
       order = order;
       same = refl;
       map = refl;
-      lets = c.first-walk-quest.ensures.lets;
+      lets = c.first_walk-quest.ensures.lets;
     }

@@ -6,7 +6,7 @@ use Rattle.visibility.specs.Sets.{marks, both}
 use Rattle.visibility.specs.Sights.{sight, touches}
 use Rattle.visibility.proofs.Unfilled.{Unfilling, unfilling_none, unfilling_yes, unfilling_no, unfilling_at, unfilling_test}
 use Rattle.visibility.proofs.rows.Rows.unfill.Goals as goal
-use Rattle.visibility.proofs.rows.Rows.unfill.Goals.{then-is-touched, else-is-touched}
+use Rattle.visibility.proofs.rows.Rows.unfill.Goals.{then-is_touched, else-is_touched}
 
 -- the test of row a speaks of the marks and rows as they were
 test :
@@ -26,20 +26,20 @@ loop-a-preserved c =
     let wide = c.loop-a.invariant.2 in
     let whole : length c.args.self.now.filled ≡ 256 = search rules in
     let l : c.loop-a.a < length c.loop-a.self.filled = omega arith in
-    elim c.if-is-touched.branch [
-      | then-is-touched w ↦ (
-        unfilling_at (marks s.filled) touch (c.loop-a.a + 1) (c.loop-a.count + 1) c.if-is-touched.count (set c.loop-a.self.filled c.loop-a.a false) c.if-is-touched.self.filled
+    elim c.if-is_touched.branch [
+      | then-is_touched w ↦ (
+        unfilling_at (marks s.filled) touch (c.loop-a.a + 1) (c.loop-a.count + 1) c.if-is_touched.count (set c.loop-a.self.filled c.loop-a.a false) c.if-is_touched.self.filled
             w.count-is (ap (λ (v : Rows). v.filled) w.self-is)
             (unfilling_yes (marks s.filled) touch c.loop-a.a c.loop-a.count c.loop-a.self.filled was l
-            (test s.filled s.rows c.loop-a.self.rows c.args.x c.args.y c.loop-a.a c.loop-a.count c.loop-a.self.filled true was same w.if-is-touched.ensures)),
+            (test s.filled s.rows c.loop-a.self.rows c.args.x c.args.y c.loop-a.a c.loop-a.count c.loop-a.self.filled true was same w.if-is_touched.ensures)),
         ap (λ (v : Rows). v.rows) w.self-is ∙ same,
         ap (λ (v : Rows). length v.filled) w.self-is ∙ length-set c.loop-a.self.filled c.loop-a.a false ∙ wide,
       )
-      | else-is-touched w ↦ (
-        unfilling_at (marks s.filled) touch (c.loop-a.a + 1) c.loop-a.count c.if-is-touched.count c.loop-a.self.filled c.if-is-touched.self.filled
+      | else-is_touched w ↦ (
+        unfilling_at (marks s.filled) touch (c.loop-a.a + 1) c.loop-a.count c.if-is_touched.count c.loop-a.self.filled c.if-is_touched.self.filled
             w.count-is (ap (λ (v : Rows). v.filled) w.self-is)
             (unfilling_no (marks s.filled) touch c.loop-a.a c.loop-a.count c.loop-a.self.filled was
-            (test s.filled s.rows c.loop-a.self.rows c.args.x c.args.y c.loop-a.a c.loop-a.count c.loop-a.self.filled false was same w.if-is-touched.ensures)),
+            (test s.filled s.rows c.loop-a.self.rows c.args.x c.args.y c.loop-a.a c.loop-a.count c.loop-a.self.filled false was same w.if-is_touched.ensures)),
         ap (λ (v : Rows). v.rows) w.self-is ∙ same,
         ap (λ (v : Rows). length v.filled) w.self-is ∙ wide,
       )

@@ -13,12 +13,12 @@ returns g c =
     let t = c.args.self.now in
     let w = world (g.M.Map.rooms t.map) (g.M.Map.doorways t.map) (g.S.Stabber.lets t.stabber) in
     let after : State = record { shut = marks t.closed; filled = marks c.fill.new.self.filled; shows = sight c.fill.new.self.rows } in
-    let l : c.args.a < g.M.Map.rooms t.map = omega (arith, c.if-a-room-count.false, c.room-count.ensures) in
+    let l : c.args.a < g.M.Map.rooms t.map = omega (arith, c.if-a-room_count.false, c.room_count.ensures) in
     record {
       value = fill_granted w (g.met.M.Map.inside t.map) (g.met.M.Map.bounded t.map) (state_of t) after c.args.a c.count.result
-          (shown c.true-row-row.result.bytes) l refl c.fill.ensures.filled c.fill.ensures.other c.fill.ensures.this
-          c.true-row-row.ensures.value c.count.ensures;
-      asked = c.true-row-row.ensures.asked ∙ sym (cond-true (ltb c.args.a (g.M.Map.rooms t.map)) _ _ (lt-ltb _ _ l));
+          (shown c.true_row-row.result.bytes) l refl c.fill.ensures.filled c.fill.ensures.other c.fill.ensures.this
+          c.true_row-row.ensures.value c.count.ensures;
+      asked = c.true_row-row.ensures.asked ∙ sym (cond-true (ltb c.args.a (g.M.Map.rooms t.map)) _ _ (lt-ltb _ _ l));
       map = refl;
-      lets = c.true-row-row.ensures.lets;
+      lets = c.true_row-row.ensures.lets;
     }
