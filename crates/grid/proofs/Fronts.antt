@@ -1,7 +1,7 @@
 -- How far a painting comes: the pixels that are painted spell a front of the text, and the next stroke is the fault.
 use Rattle.std.proofs.Common.{◌≡◌, ℕ, zero, suc, ◌+◌, ◌/◌, ◌%◌, ◌<◌, Bool, true, false, cond, List, [], ◌∷◌, ◌++◌, map, length, get_or, drop, set, Some, None, Ok, Err, Option, Result, sym, refl, ap, ◌∙◌, subst, add-zero, zero-add, arith}
 use Rattle.std.specs.Option.{ok_or}
-use Rattle.std.specs.List.{AllByRecursion as All}
+use Rattle.std.specs.List.{AllByRecursion}
 use Rattle.std.proofs.lemmas.List.{append_assoc}
 use Rattle.std.proofs.lemmas.Bool.{ne_eqb, cond-false, both_ways}
 use Rattle.text.specs.declared.faults.Fault.{Fault}
@@ -32,7 +32,7 @@ ink_both (x ∷ xs) ys = go (white x) (ink_both xs ys)
 
 -- what the next stroke's fault says
 pub data Missed (t : List ℕ) (s : Size) (k at : ℕ) (f : Fault) : Type 0 where
-  ends : All White (drop at t) → f ≡ fault Early (length t) → Missed t s k at f
+  ends : AllByRecursion White (drop at t) → f ≡ fault Early (length t) → Missed t s k at f
   odd_byte : (b q next : ℕ) → Found t at (Some (b, q)) next → (b ≡ 48 → ⊥) → (b ≡ 49 → ⊥) → f ≡ fault Stray q → Missed t s k at f
   wrong : (c q next : ℕ) → Found t at (Some (48 + c, q)) next → c < 2 → (Right s k c → ⊥) → f ≡ fault WrongColour q → Missed t s k at f
 

@@ -1,6 +1,6 @@
 -- The next mark is the first ink.
 use Rattle.std.proofs.Common.{◌≡◌, ℕ, List, [], ◌∷◌, ◌++◌, drop, Some, None, Option, sym, refl, ap, ◌∙◌}
-use Rattle.std.specs.List.{AllByRecursion as All}
+use Rattle.std.specs.List.{AllByRecursion}
 use Rattle.std.proofs.lemmas.List.{append-nil}
 use Rattle.std.proofs.lemmas.Bool.{cond-true, cond-false}
 use Rattle.text.specs.Bytes.{White, white}
@@ -9,7 +9,7 @@ use Rattle.text.proofs.Classes.{white_true, white_false}
 use Rattle.text.proofs.Marks.{finds}
 use Rattle.grid.specs.Pictures.{ink}
 
-pub ink_white : (ws bs : List ℕ) → All White ws → ink (ws ++ bs) ≡ ink bs
+pub ink_white : (ws bs : List ℕ) → AllByRecursion White ws → ink (ws ++ bs) ≡ ink bs
 ink_white [] bs h = refl
 ink_white (w ∷ ws) bs h = cond-true (white w) (ink (ws ++ bs)) (w ∷ ink (ws ++ bs)) (white_true w h.0) ∙ ink_white ws bs h.1
 

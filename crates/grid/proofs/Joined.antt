@@ -1,6 +1,6 @@
 -- The doorway of each opening joins two rooms of the plan, by a crossing.
 use Rattle.std.proofs.Common.{◌≡◌, ℕ, zero, suc, ◌+◌, ◌-◌, ◌*◌, ◌/◌, ◌%◌, ◌<◌, ◌≤◌, Bool, true, false, cond, ◌&&◌, List, [], ◌∷◌, ◌++◌, pos, refl, ap, ◌∙◌, mul_comm, add-mul, one-mul, arith}
-use Rattle.std.specs.List.{AllByRecursion as All}
+use Rattle.std.specs.List.{AllByRecursion}
 use Rattle.std.proofs.lemmas.Nat.{mul-add-lt}
 use Rattle.std.proofs.ByRecursion.{All-append}
 use Rattle.std.proofs.lemmas.Int.{ints}
@@ -50,12 +50,12 @@ module _ (s : Size) (roomy : Roomy s) where
         | false ↦ λ e. let r = rooms_above s (column s k) (row s k) f at.0 at.1 (eqb-false _ _ e) in north_joins _ _ r.0 r.1
       ] refl
 
-  pub openings_join : (ps : List ℕ) (n : ℕ) → n ≤ area s → All (Joins (s.w * s.h)) (openings s ps n)
+  pub openings_join : (ps : List ℕ) (n : ℕ) → n ≤ area s → AllByRecursion (Joins (s.w * s.h)) (openings s ps n)
   unfolding openings
   openings_join ps zero h = tt
   openings_join ps (suc n) h =
       All-append _ (openings s ps n) _ (openings_join ps n (omega arith))
-      (elim (opening s ps n) as (λ b. opening s ps n ≡ b → All (Joins (s.w * s.h)) (cond b (passage_at s n ∷ []) [])) [
+      (elim (opening s ps n) as (λ b. opening s ps n ≡ b → AllByRecursion (Joins (s.w * s.h)) (cond b (passage_at s n ∷ []) [])) [
         | true ↦ λ e. (passage_joins n (omega arith) (and_parts (free (rule_of s (column s n) (row s n))) _ e).0, tt)
         | false ↦ λ _. tt
       ] refl)

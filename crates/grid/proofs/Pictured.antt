@@ -1,6 +1,6 @@
 -- The map that is made of a plan's openings is the plan's.
 use Rattle.std.proofs.Common.{◌≡◌, ℕ, ◌*◌, ◌≤◌, ◌⊎◌, List, [], ◌∷◌, map, length, take, sym, refl, ◌∙◌, subst, inl, inr, ⊎_elim, arith}
-use Rattle.std.specs.List.{AllByRecursion as All}
+use Rattle.std.specs.List.{AllByRecursion}
 use Rattle.maps.specs.declared.doorway.Doorway.{Doorway}
 use Rattle.maps.specs.declared.passage.Passage.{Passage}
 use Rattle.maps.specs.Passages.{Becomes, Fits, Joins, plain}
@@ -26,6 +26,6 @@ module _ (s : Size) (ps : List ℕ) (found : List Passage) (rooms : ℕ) (ds : L
       let roomy = drawn.0 in
       let small = area_fits s roomy in
       let some : 1 ≤ s.w * s.h = omega (arith, left_factor s.w s.h roomy.1, roomy.0) in
-      let joins : All (Joins (s.w * s.h)) (take count found) = subst (All (Joins (s.w * s.h))) (sym e) (openings_join s roomy ps (area s) (omega arith)) in
+      let joins : AllByRecursion (Joins (s.w * s.h)) (take count found) = subst (AllByRecursion (Joins (s.w * s.h))) (sym e) (openings_join s roomy ps (area s) (omega arith)) in
       let fits : Fits (s.w * s.h) count found = (some, roomy.2, omega arith, omega arith, joins) in
       ⊎_elim (λ h. inl (drawn, h.1, h.2 ∙ e)) (λ h. absurd (h.0 fits)) b

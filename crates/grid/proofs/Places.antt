@@ -1,6 +1,6 @@
 -- Colours by pixel, and by column and row.
 use Rattle.std.proofs.Common.{◌≡◌, ℕ, zero, suc, ◌+◌, ◌*◌, ◌/◌, ◌%◌, ◌<◌, List, [], ◌∷◌, length, get_or, sym, subst, add-zero, mul_comm, zero-add, arith}
-use Rattle.std.specs.List.{AllByRecursion as All}
+use Rattle.std.specs.List.{AllByRecursion}
 use Rattle.std.proofs.lemmas.Nat.{div-add-mod', mul-add-lt, div-mul-add, mod-mul-add, div_below, mod_below}
 use Rattle.grid.specs.declared.sizes.Size.{Size}
 use Rattle.grid.specs.Sizes.{Roomy, across, area}
@@ -8,7 +8,7 @@ use Rattle.grid.specs.Pictures.{Colour, Legal}
 use Rattle.grid.proofs.Paintings.{Right, Rights}
 
 module _ (s : Size) where
-  pub rights_from : (ps : List ℕ) (k : ℕ) → All (λ p. p < 2) ps → ((i : ℕ) → i < length ps → Right s (k + i) (get_or ps i 0)) → Rights s k ps
+  pub rights_from : (ps : List ℕ) (k : ℕ) → AllByRecursion (λ p. p < 2) ps → ((i : ℕ) → i < length ps → Right s (k + i) (get_or ps i 0)) → Rights s k ps
   rights_from [] k b h = tt
   rights_from (p ∷ ps) k b h =
       (b.0, subst (λ j. Right s j p) (add-zero k) (h 0 (omega arith)), rights_from ps (k + 1) b.1 (λ i l. subst (λ j. Right s j (get_or ps i 0)) (one k i) (h (suc i) (omega arith))))
@@ -16,7 +16,7 @@ module _ (s : Size) where
       one : (a b : ℕ) → a + suc b ≡ a + 1 + b
       one a b = omega arith
 
-  pub rights_bits : (ps : List ℕ) (k : ℕ) → Rights s k ps → All (λ p. p < 2) ps
+  pub rights_bits : (ps : List ℕ) (k : ℕ) → Rights s k ps → AllByRecursion (λ p. p < 2) ps
   rights_bits [] k h = tt
   rights_bits (p ∷ ps) k h = (h.0, rights_bits ps (k + 1) h.2)
 
@@ -28,7 +28,7 @@ module _ (s : Size) where
       one : (a b : ℕ) → a + 1 + b ≡ a + suc b
       one a b = omega arith
 
-  pub legal_rights : (ps : List ℕ) → Legal s ps → All (λ p. p < 2) ps → length ps ≡ area s → Rights s 0 ps
+  pub legal_rights : (ps : List ℕ) → Legal s ps → AllByRecursion (λ p. p < 2) ps → length ps ≡ area s → Rights s 0 ps
   legal_rights ps h b n =
       rights_from ps 0 b
       (λ i l.

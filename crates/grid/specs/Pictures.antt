@@ -15,7 +15,7 @@
 --                    Complete: a text of at most 60,000 bytes that spells a legal plan is accepted, given space enough.
 --                    Refused: after any other refusal the space holds zeros.
 use Rattle.std.specs.Prelude.{◌≡◌, ℕ, ◌+◌, ◌-◌, ◌*◌, ◌%◌, ◌<◌, ◌≤◌, cond, ◌⊎◌, List, [], ◌∷◌, ◌++◌, map, length, Ok, Err, Result, slice_index}
-use Rattle.std.specs.List.{AllByRecursion as All}
+use Rattle.std.specs.List.{AllByRecursion}
 use Rattle.text.specs.declared.faults.Fault.{Fault}
 use Rattle.text.specs.declared.faults.Ground.TheVariants.{Space}
 use Rattle.text.specs.Bytes.{White, white}
@@ -30,7 +30,7 @@ ink [] = []
 ink (b ∷ bs) = cond (white b) (ink bs) (b ∷ ink bs)
 
 abbrev pub Spaces : List ℕ → Type 0
-Spaces bs = All White bs × (0 < length bs)
+Spaces bs = AllByRecursion White bs × (0 < length bs)
 
 abbrev pub Odd : ℕ → Type 0
 Odd n = n % 2 ≡ 1
@@ -59,7 +59,7 @@ pub record Spelling (t : List ℕ) (s : Size) (ps : List ℕ) : Type 0 where
   pub height : Numeral tall × (decimal tall ≡ across s.h)
   pub ends : Ends body
   pub pixels : ink body ≡ map (λ p. 48 + p) ps
-  pub bits : All (λ p. p < 2) ps
+  pub bits : AllByRecursion (λ p. p < 2) ps
   pub count : length ps ≡ area s
 
 pub record Understood (t sp : List ℕ) (r : Result Size Fault) (after : List ℕ) : Type 0 where

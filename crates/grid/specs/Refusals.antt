@@ -11,7 +11,7 @@
 --   Blamed t sp r     where the space sp is long enough, a fault that is answered is that the text t has more than 60,000 bytes;
 --                     or it has not, and the fault is its first one
 use Rattle.std.specs.Prelude.{◌≡◌, ℕ, ◌+◌, ◌*◌, ◌/◌, ◌%◌, ◌<◌, ◌≤◌, false, ◌⊎◌, List, [], ◌∷◌, ◌++◌, map, length, drop, Some, Err, Result, ◌≢◌, slice_index}
-use Rattle.std.specs.List.{AllByRecursion as All}
+use Rattle.std.specs.List.{AllByRecursion}
 use Rattle.text.specs.declared.faults.Fault.{Fault}
 use Rattle.text.specs.declared.faults.Ground.TheVariants.{Stray, Early, Heading, Limits, Over, Colour as Miscoloured}
 use Rattle.text.specs.Bytes.{White}
@@ -39,7 +39,7 @@ pub record Begun (t : List ℕ) (s : Size) (at : ℕ) (ps : List ℕ) (p : ℕ) 
   pub front : List ℕ
   pub split : drop at t ≡ front ++ drop p t
   pub pixels : ink front ≡ map (λ p. 48 + p) ps
-  pub bits : All (λ p. p < 2) ps
+  pub bits : AllByRecursion (λ p. p < 2) ps
   pub right : (k : ℕ) → k < length ps → Colour s (k % across s.w) (k / across s.w) (slice_index ps k)
 
 pub data Faulty (t : List ℕ) (f : Fault) : Type 0 where
@@ -50,7 +50,7 @@ pub data Faulty (t : List ℕ) (f : Fault) : Type 0 where
   bad_height : Headed t → (w q : ℕ) → 1 ≤ w → Plain (drop 2 t) (across w) (drop q t) → (p : ℕ) → Reads false (length t) q (drop q t) (record { result = Err f; at = p }) → Faulty t f
   wrong_height : Headed t → (w q : ℕ) → 1 ≤ w → Plain (drop 2 t) (across w) (drop q t) → (v p : ℕ) (n : Plain (drop q t) v (drop p t))
       → (Side v → ⊥) ⊎ ((h : ℕ) × (v ≡ across h) × (256 < w * h)) → f ≡ fault Limits (q + length n.ws) → Faulty t f
-  few : (s : Size) (at : ℕ) → Sized t s at → (ps : List ℕ) (p : ℕ) → Begun t s at ps p → length ps < area s → All White (drop p t) → f ≡ fault Early (length t) → Faulty t f
+  few : (s : Size) (at : ℕ) → Sized t s at → (ps : List ℕ) (p : ℕ) → Begun t s at ps p → length ps < area s → AllByRecursion White (drop p t) → f ≡ fault Early (length t) → Faulty t f
   stray : (s : Size) (at : ℕ) → Sized t s at → (ps : List ℕ) (p : ℕ) → Begun t s at ps p → length ps < area s
       → (b q next : ℕ) → Found t p (Some (b, q)) next → (b ≢ 48) → (b ≢ 49) → f ≡ fault Stray q → Faulty t f
   miscoloured : (s : Size) (at : ℕ) → Sized t s at → (ps : List ℕ) (p : ℕ) → Begun t s at ps p → length ps < area s

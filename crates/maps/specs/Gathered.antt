@@ -1,7 +1,7 @@
 -- Doorways made one by one, and what they then join.
 use Rattle.std.specs.Prelude.{◌≡◌, ℕ, ◌+◌, ◌<◌, ◌≤◌, Bool, true, ◌&&◌, List, [], ◌∷◌, ◌++◌, map, length, take, nat_lt, slice_index_or, slice_set, refl}
 use Rattle.std.proofs.Common.{sym, ap, subst, ◌∙◌, arith}
-use Rattle.std.specs.List.{AllByRecursion as All}
+use Rattle.std.specs.List.{AllByRecursion}
 use Rattle.std.proofs.ByRecursion.{All-more}
 use Rattle.std.proofs.lemmas.List.{take_more, take_more_set, map-append}
 use Rattle.std.proofs.lemmas.Bool.{and_from, and_parts, lt-ltb, ltb-true}
@@ -9,7 +9,7 @@ use Rattle.maps.specs.declared.doorway.Doorway.{Doorway}
 use Rattle.maps.specs.declared.passage.Passage.{Passage}
 use Rattle.maps.specs.Passages.{plain, Joins, within}
 
-pub within_all : (n : ℕ) (ds : List Doorway) → within n ds ≡ true → All (λ d. (d.near < n) × (d.far < n)) ds
+pub within_all : (n : ℕ) (ds : List Doorway) → within n ds ≡ true → AllByRecursion (λ d. (d.near < n) × (d.far < n)) ds
 within_all n [] e = tt
 within_all n (d ∷ ds) e =
     let p = and_parts (nat_lt d.near n && nat_lt d.far n) (within n ds) e in
@@ -28,11 +28,11 @@ joined n d a b =
 
 module _ (n k : ℕ) (from : List Passage) (into : List Doorway) (z : Passage) (d : Doorway) where
   pub record Gathered : Type 0 where
-    pub all : All (Joins n) (take (k + 1) from)
+    pub all : AllByRecursion (Joins n) (take (k + 1) from)
     pub same : map plain (take (k + 1) (slice_set into k d)) ≡ take (k + 1) from
     pub inside : within n (take (k + 1) (slice_set into k d)) ≡ true
 
-  pub gathered : k < length from → k < length into → All (Joins n) (take k from) → map plain (take k into) ≡ take k from → within n (take k into) ≡ true
+  pub gathered : k < length from → k < length into → AllByRecursion (Joins n) (take k from) → map plain (take k into) ≡ take k from → within n (take k into) ≡ true
       → plain d ≡ slice_index_or from k z → d.near < n → d.far < n → Gathered
   gathered f i all same inside is a b =
       record {

@@ -9,7 +9,7 @@
 --                   the map with these rooms and doorways is made of n rooms and the first c of ps, where those make one;
 --                   else it has one room and no doorway
 use Rattle.std.specs.Prelude.{◌≡◌, ℕ, ◌<◌, ◌≤◌, Bool, true, ◌&&◌, ◌⊎◌, List, [], ◌∷◌, map, length, take, ◌≢◌, nat_lt}
-use Rattle.std.specs.List.{AllByRecursion as All}
+use Rattle.std.specs.List.{AllByRecursion}
 use Rattle.plane.specs.Limits.{Crosses}
 use Rattle.plane.specs.declared.quad.Quad.{Quad}
 use Rattle.maps.specs.declared.doorway.Doorway.{Doorway}
@@ -33,7 +33,7 @@ abbrev pub Joins : ℕ → Passage → Type 0
 Joins n p = (p.near < n) × (p.far < n) × (p.near ≢ p.far) × Crosses (posts_of p)
 
 abbrev pub Fits : ℕ → ℕ → List Passage → Type 0
-Fits n c ps = (1 ≤ n) × (n ≤ 256) × (c ≤ 2048) × (c ≤ length ps) × All (Joins n) (take c ps)
+Fits n c ps = (1 ≤ n) × (n ≤ 256) × (c ≤ 2048) × (c ≤ length ps) × AllByRecursion (Joins n) (take c ps)
 
 abbrev pub within : ℕ → List Doorway → Bool
 within n [] = true

@@ -1,6 +1,6 @@
 // A map is made from a number of rooms and plain doorways.
 ghost use Rattle.std.specs.Prelude.{◌≡◌, ◌<◌, ◌≤◌, true, map, length, take, Decides, MatchOption};
-ghost use Rattle.std.specs.List.{AllByRecursion as All};
+ghost use Rattle.std.specs.List.{AllByRecursion};
 ghost use Rattle.maps.specs.Passages.{plain, Joins, within, Becomes};
 
 use crate::doorway::Doorway;
@@ -55,7 +55,7 @@ fn filler() -> Doorway {
 // Makes doorways of all that `from` has; whether each could be made.
 fn gather(rooms: usize, from: &[Passage], into: &mut [Doorway]) -> bool
     requires { length from.now ≤ length into.old }
-    ensures test { Decides result (All (Joins rooms) from.now) }
+    ensures test { Decides result (AllByRecursion (Joins rooms) from.now) }
     ensures after { result ≡ true → (map plain (take (length from.now) into.new) ≡ from.now) × (within rooms (take (length from.now) into.new) ≡ true) }
 {
     for k in 0..from.len() {

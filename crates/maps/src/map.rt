@@ -1,6 +1,6 @@
 // What a map means and owes.
 ghost use Rattle.std.specs.Prelude.{◌≡◌, ℕ, ◌<◌, ◌≤◌, List, length};
-ghost use Rattle.std.specs.List.{slice_get, AllByRecursion as All};
+ghost use Rattle.std.specs.List.{slice_get, AllByRecursion};
 ghost use Rattle.maps.specs.declared.doorway.Doorway.{Doorway};
 
 use crate::doorway::Doorway;
@@ -32,5 +32,5 @@ pub trait Map {
     ghost few: { (m : Self) → length (doorways m) ≤ 2048 };
 
     // Each doorway joins two rooms of the map.
-    ghost inside: { (m : Self) → All (λ d. (d.near < rooms m) × (d.far < rooms m)) (doorways m) };
+    ghost inside: { (m : Self) → AllByRecursion (λ d. (d.near < rooms m) × (d.far < rooms m)) (doorways m) };
 }

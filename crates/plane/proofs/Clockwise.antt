@@ -5,7 +5,7 @@
 --   Clockmost xs   some proper line with the property E has all of xs on its left, and is itself not to the right of d
 use Rattle.std.proofs.Common.{◌≡◌, ◌⊎◌, List, [], ◌∷◌, pos, ◌*ℤ◌, neg_ℤ, ◌≤ℤ◌, ◌<ℤ◌, ◌∙◌, inl, inr, arith}
 use lib.IntN.{zero-*ℤ}
-use Rattle.std.specs.List.{AllByRecursion as All}
+use Rattle.std.specs.List.{AllByRecursion}
 use Rattle.std.proofs.ByRecursion.{All-weaker}
 use Rattle.std.proofs.lemmas.Int.{by_lt_z}
 use Rattle.plane.specs.Separation.{Coefficients, Proper}
@@ -87,11 +87,11 @@ module _ (d : Coefficients) (proper : Proper d) where
 
   module _ {X : Type 0} (line : X → Coefficients) (E : X → Type 0) where
     abbrev Clockmost : List X → Type 0
-    Clockmost xs = (m : X) × E m × Left d (line m) × Proper (line m) × All (λ y. pos 0 ≤ℤ cross (line m) (line y)) xs
+    Clockmost xs = (m : X) × E m × Left d (line m) × Proper (line m) × AllByRecursion (λ y. pos 0 ≤ℤ cross (line m) (line y)) xs
 
     -- either some line of a list runs along d, or all are turned from it
-    some_along : (xs : List X) → All (λ x. E x × Left d (line x)) xs →
-        ((x : X) × E x × Along d (line x)) ⊎ All (λ x. E x × Turned d (line x)) xs
+    some_along : (xs : List X) → AllByRecursion (λ x. E x × Left d (line x)) xs →
+        ((x : X) × E x × Along d (line x)) ⊎ AllByRecursion (λ x. E x × Turned d (line x)) xs
     some_along [] h = inr tt
     some_along (x ∷ xs) ((e, h), hs) = elim (along_or_turned d (line x) h) [
       | inl a ↦ inl (x, e, a)
@@ -100,7 +100,7 @@ module _ (d : Coefficients) (proper : Proper d) where
 
     -- of turned lines one is most clockwise: from a proper line x on, each that is to the right of the last takes its place
     turned_clockmost : (x : X) → E x → Turned d (line x) → Proper (line x) → (xs : List X) →
-        All (λ y. E y × Turned d (line y)) xs → Clockmost (x ∷ xs)
+        AllByRecursion (λ y. E y × Turned d (line y)) xs → Clockmost (x ∷ xs)
     turned_clockmost x e t p [] hs =
         (x, e, turned_left d (line x) t, p, (omega (arith, linear, cross_back (line x) (line x)), tt))
     turned_clockmost x e t p (y ∷ ys) ((f, s), hs) = by_lt_z (cross (line x) (line y)) (pos 0)
@@ -114,7 +114,7 @@ module _ (d : Coefficients) (proper : Proper d) where
         (m, em, lm, pm, (mx, (further (line m) (line x) (line y) lm t s p mx xy, rest)))
 
     -- of lines that are not to the right of d, the first of which is proper, one is most clockwise
-    pub clockmost : (x : X) → Proper (line x) → (xs : List X) → All (λ y. E y × Left d (line y)) (x ∷ xs) → Clockmost (x ∷ xs)
+    pub clockmost : (x : X) → Proper (line x) → (xs : List X) → AllByRecursion (λ y. E y × Left d (line y)) (x ∷ xs) → Clockmost (x ∷ xs)
     clockmost x p xs h = elim (some_along (x ∷ xs) h) [
       | inl (m, e, a) ↦ (
         m,

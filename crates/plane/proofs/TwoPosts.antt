@@ -10,7 +10,7 @@
 --   Answer p m     the line through some two different posts of p separates p, and goes through the left post of m
 use Rattle.std.proofs.Common.{◌≡◌, List, [], ◌∷◌, pos, ◌≤ℤ◌, sym, refl, arith}
 use lib.Signed.{≤ℤ_refl}
-use Rattle.std.specs.List.{ContainsAt as Has, AllByRecursion as All}
+use Rattle.std.specs.List.{ContainsAt as Has, AllByRecursion}
 use Rattle.std.proofs.ByRecursion.{All-weaker, all_has_itself}
 use Rattle.plane.specs.declared.quad.Quad.{Quad}
 use Rattle.plane.specs.Separation.{Point, Coefficients, Proper, value, left, right, Apart, Parts, Separates, Stabbed}
@@ -42,16 +42,16 @@ Answer p m =
     × (value (through P Q) (left m) ≡ pos 0)
 
 -- what holds of each post, or of each spoke, holds crossing by crossing
-by_post : (E : Point → Type 0) (p : List Quad) → All E (posts p) → All (λ q. E (left q) × E (right q)) p
+by_post : (E : Point → Type 0) (p : List Quad) → AllByRecursion E (posts p) → AllByRecursion (λ q. E (left q) × E (right q)) p
 by_post E [] h = tt
 by_post E (q ∷ p) (l, (r, h)) = ((l, r), by_post E p h)
 
-by_spoke : (E : Spoke → Type 0) (P : Point) (p : List Quad) → All E (spokes P p) → All (λ q. E (P, left q) × E (right q, P)) p
+by_spoke : (E : Spoke → Type 0) (P : Point) (p : List Quad) → AllByRecursion E (spokes P p) → AllByRecursion (λ q. E (P, left q) × E (right q, P)) p
 unfolding spokes
 by_spoke E P [] h = tt
 by_spoke E P (q ∷ p) (l, (r, h)) = ((l, r), by_spoke E P p h)
 
-to_spokes : (E : Spoke → Type 0) (P : Point) (p : List Quad) → All (λ q. E (P, left q) × E (right q, P)) p → All E (spokes P p)
+to_spokes : (E : Spoke → Type 0) (P : Point) (p : List Quad) → AllByRecursion (λ q. E (P, left q) × E (right q, P)) p → AllByRecursion E (spokes P p)
 unfolding spokes
 to_spokes E P [] h = tt
 to_spokes E P (q ∷ p) ((l, r), h) = (l, (r, to_spokes E P p h))
@@ -77,7 +77,7 @@ drawn p l P has h q (((Has-left, Has-right), parts), k) =
 
 -- the most clockwise spoke of a left post of least value gives the answer; its own right post gives a proper spoke
 from_least : (p : List Quad) (l : Coefficients) → Proper l → (m : Quad) → Apart m → Crossed p l m →
-    All (λ q. Crossed p l q × (value l (left m) ≤ℤ value l (left q))) p → Answer p m
+    AllByRecursion (λ q. Crossed p l q × (value l (left m) ≤ℤ value l (left q))) p → Answer p m
 from_least p l proper m apart (has, parts) h =
     let P : Point = left m in
     let both = drawn p l P has.0 parts.0 in
@@ -89,7 +89,7 @@ from_least p l proper m apart (has, parts) h =
     (s.0, s.1, from, to, through_apart s.0 s.1 real', All-weaker _ _ (parted (line s) P on) p (by_spoke _ P p around), on)
 
 -- a path that is not empty has a left post of least value, which keeps what holds of each crossing
-pub through_left : (E : Quad → Type 0) (p : List Quad) → (p ≡ [] → ⊥) → All Apart p → Stabbed p → All E p →
+pub through_left : (E : Quad → Type 0) (p : List Quad) → (p ≡ [] → ⊥) → AllByRecursion Apart p → Stabbed p → AllByRecursion E p →
     (m : Quad) × E m × Answer p m
 through_left E [] not_empty apart stabbed holds = absurd (not_empty refl)
 through_left E (q ∷ p) not_empty apart (l, proper, separates) holds =

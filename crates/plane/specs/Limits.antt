@@ -4,7 +4,7 @@
 --   Crosses q    the four numbers are a crossing: two posts, at different points
 --   Path p       the list is a path: at most 511 crossings
 use Rattle.std.specs.Prelude.{◌≤◌, List, length, unsigned_abs}
-use Rattle.std.specs.List.{AllByRecursion as All}
+use Rattle.std.specs.List.{AllByRecursion}
 use Rattle.plane.specs.declared.quad.Quad.{Quad}
 use Rattle.plane.specs.Separation.{Point, Coefficients, left, right, Apart}
 
@@ -18,4 +18,4 @@ abbrev pub Crosses : Quad → Type 0
 Crosses q = PostAt (left q) × PostAt (right q) × Apart q
 
 abbrev pub Path : List Quad → Type 0
-Path p = (length p ≤ 511) × All Crosses p
+Path p = (length p ≤ 511) × AllByRecursion Crosses p

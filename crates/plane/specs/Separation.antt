@@ -9,7 +9,7 @@
 --   Separates l p  l parts every crossing of the path p
 --   Stabbed p      some line, of whatever size, separates p: p has a stabbing line
 use Rattle.std.specs.Prelude.{◌≡◌, List, ℤ, pos, ◌+ℤ◌, ◌*ℤ◌, ◌≤ℤ◌, ◌≢◌}
-use Rattle.std.specs.List.{AllByRecursion as All}
+use Rattle.std.specs.List.{AllByRecursion}
 use Rattle.plane.specs.declared.quad.Quad.{Quad}
 
 abbrev pub Point : Type 0
@@ -37,7 +37,7 @@ abbrev pub Parts : Coefficients → Quad → Type 0
 Parts l q = (pos 0 ≤ℤ value l (left q)) × (value l (right q) ≤ℤ pos 0)
 
 abbrev pub Separates : Coefficients → List Quad → Type 0
-Separates l p = All (Parts l) p
+Separates l p = AllByRecursion (Parts l) p
 
 abbrev pub Stabbed : List Quad → Type 0
 Stabbed p = (l : Coefficients) × Proper l × Separates l p

@@ -1,7 +1,7 @@
 -- The faces: read where they are spelt within the limits, and only there.
 use Rattle.std.proofs.Common.{◌≡◌, ℕ, zero, suc, ◌+◌, ◌<◌, List, [], ◌∷◌, ◌++◌, map, length, drop, set, Ok, Err, Result, sym, refl, ap, ◌∙◌, subst, add-zero, add-one, arith}
 use lib.Seq.{sets}
-use Rattle.std.specs.List.{AllByRecursion as All}
+use Rattle.std.specs.List.{AllByRecursion}
 use Rattle.std.proofs.lemmas.List.{length-append}
 use Rattle.text.specs.declared.faults.Fault.{Fault}
 use Rattle.text.specs.declared.faults.Ground.TheVariants.{Corner}
@@ -30,7 +30,7 @@ module _ (t : List ℕ) (m : ℕ) where
 
   -- n faces are spelt from the place at up to where o stands
   abbrev pub SpeltFaces : ℕ → ℕ → Facing → Type 0
-  SpeltFaces n at o = (fs : List (List ℕ)) × (length fs ≡ n) × Each FaceSpelt (drop at t) fs (drop o.at t) × All (Face m) fs
+  SpeltFaces n at o = (fs : List (List ℕ)) × (length fs ≡ n) × Each FaceSpelt (drop at t) fs (drop o.at t) × AllByRecursion (Face m) fs
 
   module _ (n f used at : ℕ) (ss ns : List ℕ) (k : ℕ) (e : (faced t m (suc n) f used at ss ns).result ≡ Ok k) where
     abbrev row : ℕ → Filling ℕ
@@ -65,7 +65,7 @@ module _ (t : List ℕ) (m : ℕ) where
   faces_sound zero f used at ss ns k e = ([], refl, ap (λ o. drop o.at t) (sym (face_none t m f used at ss ns)), tt)
   faces_sound (suc n) f used at ss ns k e = face_step n f used at ss ns k e (λ c. faces_sound n (f + 1) (used + c) (filled (number t m) c used (size t at).at ns).at (set ss f c) (filled (number t m) c used (size t at).at ns).space k)
 
-  pub faces_complete : (fs : List (List ℕ)) (f used at : ℕ) (ss ns rest : List ℕ) → Each FaceSpelt (drop at t) fs rest → All (Face m) fs
+  pub faces_complete : (fs : List (List ℕ)) (f used at : ℕ) (ss ns rest : List ℕ) → Each FaceSpelt (drop at t) fs rest → AllByRecursion (Face m) fs
       → (p : ℕ) × (faced t m (length fs) f used at ss ns ≡ record { result = Ok (used + length (joined fs)); at = p; sizes = sets ss f (map length fs); numbers = sets ns used (joined fs) }) × (drop p t ≡ rest)
   faces_complete [] f used at ss ns rest s all = (at, face_none t m f used at ss ns ∙ (λ i. record { result = Ok (sym (add-zero used) i); at = at; sizes = ss; numbers = ns }), s)
   faces_complete (x ∷ fs) f used at ss ns rest s all =

@@ -1,6 +1,6 @@
 -- Why a number, a corner or a face is refused, and how far a list of them is read.
 use Rattle.std.proofs.Common.{◌≡◌, ℕ, zero, suc, ◌+◌, ◌<◌, ◌≤◌, Bool, true, false, cond, ◌||◌, ltb, leb, ◌⊎◌, List, [], ◌∷◌, length, drop, set, ℤ, Ok, Err, Result, sym, refl, ap, ◌∙◌, subst, inl, inr, arith}
-use Rattle.std.specs.List.{AllByRecursion as All}
+use Rattle.std.specs.List.{AllByRecursion}
 use Rattle.std.proofs.lemmas.Bool.{ltb-true, both_ways, or_from, le-ltb, lt-leb}
 use Rattle.text.specs.declared.faults.Fault.{Fault}
 use Rattle.text.specs.declared.faults.Ground.{Ground}
@@ -103,7 +103,7 @@ pub record Failing (t : List ℕ) {A : Type 0} (one : ℕ → Out A) (One : List
   pub xs : List A
   pub place : ℕ
   pub spelt : Each One (drop at t) xs (drop place t)
-  pub such : All P xs
+  pub such : AllByRecursion P xs
   pub early : length xs < n
   pub bad : (one place).result ≡ Err f
 
@@ -127,7 +127,7 @@ module _ (t : List ℕ) (m : ℕ) where
     pub fs : List (List ℕ)
     pub place : ℕ
     pub spelt : Each FaceSpelt (drop at t) fs (drop place t)
-    pub such : All (Face m) fs
+    pub such : AllByRecursion (Face m) fs
     pub early : length fs < n
     pub bad : WrongFace m t place e
 

@@ -1,6 +1,6 @@
 -- The doorways of a legal plan join its rooms, so that they make a map.
 use Rattle.std.proofs.Common.{◌≡◌, ℕ, zero, suc, ◌+◌, ◌-◌, ◌<◌, ◌≤◌, ◌⊎◌, List, [], ◌∷◌, ◌++◌, length, get_or, pos, sym, ap, ◌∙◌, subst, inl, inr, add-zero, zero-add, arith}
-use Rattle.std.specs.List.{AllByRecursion as All}
+use Rattle.std.specs.List.{AllByRecursion}
 use Rattle.std.proofs.ByRecursion.{All-get_or, All-push}
 use Rattle.std.proofs.lemmas.List.{length-append, get_or_append_left, get_or-append_right}
 use Rattle.std.proofs.lemmas.Bool.{cases_lt, cases_eq}
@@ -97,7 +97,7 @@ module _ (m : Mesh) (w : Within m) (shaped : Shaped m) where
       let a = sure k h in
       (a.room, (sure q s.0).room, (λ e. omega (arith, s.2)), (a.to, a.from, a.apart))
 
-  pub doors_join : (n : ℕ) (ds : List Passage) → n ≤ length (edges_of m) → Doors m.corners (edges_of m) n ds → All (Joins (length m.faces)) ds
+  pub doors_join : (n : ℕ) (ds : List Passage) → n ≤ length (edges_of m) → Doors m.corners (edges_of m) n ds → AllByRecursion (Joins (length m.faces)) ds
   doors_join n ds h none = tt
   doors_join n ds h (skip k xs d s) = doors_join k xs (omega arith) d
   doors_join n ds h (door k xs q d s) = All-push (Joins (length m.faces)) xs _ (doors_join k xs (omega arith) d) (joins k q (omega arith) s)

@@ -1,6 +1,6 @@
 -- The shape of a plan's faces and its edges, as the reader tests them and in words.
 use Rattle.std.proofs.Common.{◌≡◌, ℕ, zero, suc, ◌+◌, ◌*◌, ◌<◌, ◌≤◌, true, false, cond, ◌⊎◌, List, [], ◌∷◌, ◌++◌, map, length, get_or, take, replicate, pos, ◌<ℤ◌, Ok, Err, Result, sym, refl, ap, ◌∙◌, subst, inl, inr, add-zero, add-one, arith}
-use Rattle.std.specs.List.{AllByRecursion as All}
+use Rattle.std.specs.List.{AllByRecursion}
 use Rattle.std.proofs.lemmas.List.{take_at, drop_at, length-append}
 use Rattle.std.proofs.lemmas.Bool.{cond-true, cond-false, cases_Bool, both_ways}
 use Rattle.text.specs.declared.faults.Fault.{Fault}
@@ -66,11 +66,11 @@ module _ (ps : List Point) where
   shape_more : (k : ℕ) (f : List ℕ) (fs : List (List ℕ)) → shapes k (f ∷ fs) ≡ cond (convex ps f) (shapes (k + 1) fs) (Err (fault Shape k))
   shape_more k f fs i = cond (convex ps (take_at f (joined fs) (length f) refl i)) (shapely ps (k + 1) (map length fs) (drop_at f (joined fs) (length f) refl i)) (Err (fault Shape k))
 
-  pub shapes_was : (k : ℕ) (fs : List (List ℕ)) → shapes k fs ≡ Ok tt → All (Convex ps) fs
+  pub shapes_was : (k : ℕ) (fs : List (List ℕ)) → shapes k fs ≡ Ok tt → AllByRecursion (Convex ps) fs
   shapes_was k [] e = tt
   shapes_was k (f ∷ fs) e = go (cases_Bool (convex ps f)) (shapes_was (k + 1) fs)
     where
-      go : (convex ps f ≡ true) ⊎ (convex ps f ≡ false) → (shapes (k + 1) fs ≡ Ok tt → All (Convex ps) fs) → Convex ps f × All (Convex ps) fs
+      go : (convex ps f ≡ true) ⊎ (convex ps f ≡ false) → (shapes (k + 1) fs ≡ Ok tt → AllByRecursion (Convex ps) fs) → Convex ps f × AllByRecursion (Convex ps) fs
       go (inl t) more = (convex_so ps f t, more (sym (cond-true (convex ps f) (shapes (k + 1) fs) (Err (fault Shape k)) t) ∙ sym (shape_more k f fs) ∙ e))
       go (inr n) more = let q = sym (cond-false (convex ps f) (shapes (k + 1) fs) (Err (fault Shape k)) n) ∙ sym (shape_more k f fs) ∙ e in let z : ◌≡◌ {A = ℕ} 0 1 = cc in absurd (omega arith)
 
@@ -78,7 +78,7 @@ module _ (ps : List Point) where
     pub face : ℕ
     pub is : e ≡ fault Shape (k + face)
     pub below : face < length fs
-    pub before : All (Convex ps) (take face fs)
+    pub before : AllByRecursion (Convex ps) (take face fs)
     pub bent : Convex ps (get_or fs face []) → ⊥
 
   pub shapes_bent : (k : ℕ) (fs : List (List ℕ)) (e : Fault) → shapes k fs ≡ Err e → Bend k fs e
@@ -111,6 +111,6 @@ edges_many k [] = refl
 edges_many k (f ∷ fs) =
     length-append (edges_to f k (length f)) (edges_from (k + 1) fs) ∙ (λ i. face_edges f k (length f) i + edges_many (k + 1) fs i) ∙ sym (length-append f (joined fs))
 
-pub numbers_few : (n : ℕ) (fs : List (List ℕ)) → All (Face n) fs → length (joined fs) ≤ 16 * length fs
+pub numbers_few : (n : ℕ) (fs : List (List ℕ)) → AllByRecursion (Face n) fs → length (joined fs) ≤ 16 * length fs
 numbers_few n [] h = omega arith
 numbers_few n (f ∷ fs) h = omega (arith, length-append f (joined fs), h.0.1, numbers_few n fs h.1)

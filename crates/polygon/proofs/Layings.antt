@@ -1,7 +1,7 @@
 -- The layout of a text: read where the text spells a plan within the limits, and only there.
 use Rattle.std.proofs.Common.{◌≡◌, ℕ, ◌+◌, ◌<◌, ◌≤◌, Bool, true, false, cond, ltb, List, ◌∷◌, ◌++◌, map, length, drop, Some, None, Ok, Err, Option, Result, sym, refl, ap, ◌∙◌, subst, zero-add, arith}
 use lib.Seq.{sets}
-use Rattle.std.specs.List.{AllByRecursion as All}
+use Rattle.std.specs.List.{AllByRecursion}
 use Rattle.std.proofs.ByRecursion.{All-drop}
 use Rattle.std.proofs.lemmas.List.{drop_at, length-append}
 use Rattle.std.proofs.lemmas.Bool.{cond-false, ltb-false, le-ltb}
@@ -32,21 +32,21 @@ use Rattle.polygon.proofs.Readers.{no, next_was, fills_sound, fills_complete}
 use Rattle.polygon.proofs.Starts.{headed_was, headed_reads}
 
 -- what is left over
-over_was : (t : List ℕ) (at : ℕ) → over t at ≡ Ok tt → All White (drop at t)
+over_was : (t : List ℕ) (at : ℕ) → over t at ≡ Ok tt → AllByRecursion White (drop at t)
 over_was t at = go (marked t at).found (marked t at).at (finds t at _ _ refl refl)
   where
-    go : (r : Option (ℕ × ℕ)) (p : ℕ) → Found t at r p → left_over r ≡ Ok tt → All White (drop at t)
+    go : (r : Option (ℕ × ℕ)) (p : ℕ) → Found t at r p → left_over r ≡ Ok tt → AllByRecursion White (drop at t)
     go None p h e = h.0
     go (Some m) p h e = no e
 
-over_is : (t : List ℕ) (at : ℕ) → All White (drop at t) → over t at ≡ Ok tt
+over_is : (t : List ℕ) (at : ℕ) → AllByRecursion White (drop at t) → over t at ≡ Ok tt
 over_is t at w = go (marked t at).found (marked t at).at (finds t at _ _ refl refl)
   where
     go : (r : Option (ℕ × ℕ)) (p : ℕ) → Found t at r p → left_over r ≡ Ok tt
     go None p h = refl
     go (Some m) p h =
-        let all : All White (h.0 ++ (m.0 ∷ drop p t)) = subst (All White) h.1 w in
-        let here : All White (m.0 ∷ drop p t) = subst (All White) (drop_at h.0 (m.0 ∷ drop p t) (length h.0) refl) (All-drop White (length h.0) (h.0 ++ (m.0 ∷ drop p t)) all) in
+        let all : AllByRecursion White (h.0 ++ (m.0 ∷ drop p t)) = subst (AllByRecursion White) h.1 w in
+        let here : AllByRecursion White (m.0 ∷ drop p t) = subst (AllByRecursion White) (drop_at h.0 (m.0 ∷ drop p t) (length h.0) refl) (All-drop White (length h.0) (h.0 ++ (m.0 ∷ drop p t)) all) in
         absurd (h.3 here.0)
 
 module _ (t : List ℕ) where
@@ -148,7 +148,7 @@ module _ (t : List ℕ) (ps : List Point) (ss ns : List ℕ) where
           corners = (omega (arith, many, counts.corners), omega (arith, many, counts.corners));
           posts = cs.3;
           faces = (omega (arith, all, counts.faces), omega (arith, all, counts.faces));
-          numbers = subst (λ v. All (Face v) fs.0) many fs.3;
+          numbers = subst (λ v. AllByRecursion (Face v) fs.0) many fs.3;
         },
       )
 
@@ -182,7 +182,7 @@ module _ (t : List ℕ) (ps : List Point) (ss ns : List ℕ) where
       let a = totals_complete t 3 _ _ h.edges h.after_corner_count h.after_face_count h.after_edge_count count h.face_count h.edge_count w.corners w.faces in
       let b = fills_complete t (corner t) CornerSpelt PostAt (corners t) m.corners 0 a.0 ps h.after_corners (subst (λ s. Each CornerSpelt s m.corners h.after_corners) (sym a.2) h.corners) w.posts in
       let c = faces_complete t (length m.corners) m.faces 0 0 b.0 ss ns h.after_faces (subst (λ s. Each FaceSpelt s m.faces h.after_faces) (sym b.2) h.faces) w.numbers in
-      let last = over_is t c.0 (subst (All White) (sym c.2) h.over) in
+      let last = over_is t c.0 (subst (AllByRecursion White) (sym c.2) h.over) in
       cond-false (ltb 60000 (length t)) (refuses (fault Limits 60000) ps ss ns) (at_heading t (headed t) ps ss ns) (le-ltb 60000 (length t) few)
       ∙ ap (λ r. at_heading t r ps ss ns) start
       ∙ ap (λ o. at_totals t o.result o.at ps ss ns) a.1

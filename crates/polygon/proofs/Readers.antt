@@ -1,7 +1,7 @@
 -- Readings that are sound and complete for a way of spelling, joined and repeated.
 use Rattle.std.proofs.Common.{◌≡◌, ℕ, zero, suc, ◌+◌, List, [], ◌∷◌, length, drop, set, Ok, Err, Result, sym, refl, ap, ◌∙◌, subst, add-one, arith}
 use lib.Seq.{sets}
-use Rattle.std.specs.List.{AllByRecursion as All}
+use Rattle.std.specs.List.{AllByRecursion}
 use Rattle.text.specs.declared.faults.Fault.{Fault}
 use Rattle.text.specs.Lexing.{Out}
 use Rattle.polygon.specs.Outs.{at_ok, next, filled}
@@ -30,13 +30,13 @@ pub record Reader (t : List ℕ) {A : Type 0} (one : ℕ → Out A) (One : List 
 
 module _ (t : List ℕ) {A : Type 0} (one : ℕ → Out A) (One : List ℕ → A → List ℕ → Type 0) (P : A → Type 0) (reader : Reader t one One P) where
   pub fills_sound : (n k at : ℕ) (sp : List A) → (filled one n k at sp).result ≡ Ok tt
-      → (xs : List A) × (length xs ≡ n) × Each One (drop at t) xs (drop (filled one n k at sp).at t) × All P xs
+      → (xs : List A) × (length xs ≡ n) × Each One (drop at t) xs (drop (filled one n k at sp).at t) × AllByRecursion P xs
   fills_sound zero k at sp e = ([], refl, ap (λ o. drop o.at t) (sym (fill_none one k at sp)), tt)
   fills_sound (suc n) k at sp e = go (one at).result refl (λ sp'. fills_sound n (k + 1) (one at).at sp')
     where
       go : (r : Result A Fault) → (one at).result ≡ r
-          → ((sp' : List A) → (filled one n (k + 1) (one at).at sp').result ≡ Ok tt → (xs : List A) × (length xs ≡ n) × Each One (drop (one at).at t) xs (drop (filled one n (k + 1) (one at).at sp').at t) × All P xs)
-          → (xs : List A) × (length xs ≡ suc n) × Each One (drop at t) xs (drop (filled one (suc n) k at sp).at t) × All P xs
+          → ((sp' : List A) → (filled one n (k + 1) (one at).at sp').result ≡ Ok tt → (xs : List A) × (length xs ≡ n) × Each One (drop (one at).at t) xs (drop (filled one n (k + 1) (one at).at sp').at t) × AllByRecursion P xs)
+          → (xs : List A) × (length xs ≡ suc n) × Each One (drop at t) xs (drop (filled one (suc n) k at sp).at t) × AllByRecursion P xs
       go (Ok v) is more =
           let same = fill_ok one n k at sp v is in
           let u = more (set sp k v) (ap (λ o. o.result) (sym same) ∙ e) in
@@ -44,7 +44,7 @@ module _ (t : List ℕ) {A : Type 0} (one : ℕ → Out A) (One : List ℕ → A
           (v ∷ u.0, ap suc u.1, (drop (one at).at t, w.0, subst (λ p. Each One (drop (one at).at t) u.0 (drop p t)) (ap (λ o. o.at) (sym same)) u.2), (w.1, u.3))
       go (Err g) is more = no (ap (λ o. o.result) (sym (fill_err one n k at sp g is)) ∙ e)
 
-  pub fills_complete : (xs : List A) (k at : ℕ) (sp : List A) (rest : List ℕ) → Each One (drop at t) xs rest → All P xs
+  pub fills_complete : (xs : List A) (k at : ℕ) (sp : List A) (rest : List ℕ) → Each One (drop at t) xs rest → AllByRecursion P xs
       → (p : ℕ) × (filled one (length xs) k at sp ≡ record { result = Ok tt; at = p; space = sets sp k xs }) × (drop p t ≡ rest)
   fills_complete [] k at sp rest s all = (at, fill_none one k at sp, s)
   fills_complete (x ∷ xs) k at sp rest s all =

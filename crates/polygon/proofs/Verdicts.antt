@@ -1,7 +1,7 @@
 -- What becomes of a text that spells a plan within the limits: the plan is legal and accepted, or the first thing wrong with it is the fault.
 use Rattle.std.proofs.Common.{◌≡◌, ℕ, ◌+◌, ◌-◌, ◌≤◌, List, [], ◌++◌, map, length, get_or, take, drop, replicate, pos, Ok, Err, Result, sym, refl, ap, ◌∙◌, subst, zero-add, arith}
 use lib.Seq.{sets, sets-eq}
-use Rattle.std.specs.List.{AllByRecursion as All}
+use Rattle.std.specs.List.{AllByRecursion}
 use Rattle.std.proofs.ByRecursion.{All-weaker}
 use Rattle.std.proofs.lemmas.List.{length-map, length-replicate, drop-replicate, take_at, length-append}
 use Rattle.text.specs.declared.faults.Fault.{Fault}
@@ -131,7 +131,7 @@ module _ (s0 : Spaces) (m : Mesh) where
           doorways = ap (λ l. doors_found ++ l) (drop-replicate (length doors_found) a nothing);
           corners = refl;
           numbers = refl;
-          fits = (w.faces.0, w.faces.1, omega (arith, half, few_edges), omega (arith, length-append doors_found (drop (length doors_found) none)), subst (All (Joins (length m.faces))) (sym front) some);
+          fits = (w.faces.0, w.faces.1, omega (arith, half, few_edges), omega (arith, length-append doors_found (drop (length doors_found) none)), subst (AllByRecursion (Joins (length m.faces))) (sym front) some);
         }
 
     pub data Verdict (o : Answer) : Type 0 where
@@ -139,7 +139,7 @@ module _ (s0 : Spaces) (m : Mesh) where
       bent : (f : ℕ) → Bent m f → o.result ≡ Err (fault Shape f) → Verdict o
       twice : (f : ℕ) → Shaped m → Twice m f → o.result ≡ Err (fault EdgeTwice f) → Verdict o
 
-    narrow : (fs : List (List ℕ)) → All (Convex points_held) fs → All (Convex m.corners) fs
+    narrow : (fs : List (List ℕ)) → AllByRecursion (Convex points_held) fs → AllByRecursion (Convex m.corners) fs
     narrow fs h = All-weaker (Convex points_held) (Convex m.corners) (convex_narrow (b - length m.corners) m.corners) fs h
 
     first_of : (e : Fault) → First (edges_of m) (length (edges_of m)) 0 e → (f : ℕ) × Twice m f × (e ≡ fault EdgeTwice f)

@@ -10,7 +10,7 @@
 --   Bent m f         face f is the first that is not convex and counterclockwise
 --   Twice m f        face f has the first edge that runs as an edge before it
 use Rattle.std.specs.Prelude.{◌≡◌, ℕ, ◌+◌, ◌<◌, ◌≤◌, List, [], ◌∷◌, ◌++◌, length, take, slice_index_or}
-use Rattle.std.specs.List.{AllByRecursion as All}
+use Rattle.std.specs.List.{AllByRecursion}
 use Rattle.plane.specs.Limits.{PostAt}
 use Rattle.plane.specs.Separation.{Point}
 use Rattle.polygon.specs.declared.edge.Edge.{Edge}
@@ -34,23 +34,23 @@ abbrev pub edges_of : Mesh → List Edge
 edges_of m = edges_from 0 m.faces
 
 abbrev pub Face : ℕ → List ℕ → Type 0
-Face n f = (3 ≤ length f) × (length f ≤ 16) × All (λ c. c < n) f
+Face n f = (3 ≤ length f) × (length f ≤ 16) × AllByRecursion (λ c. c < n) f
 
 pub record Within (m : Mesh) : Type 0 where
   pub corners : (3 ≤ length m.corners) × (length m.corners ≤ 1024)
-  pub posts : All PostAt m.corners
+  pub posts : AllByRecursion PostAt m.corners
   pub faces : (1 ≤ length m.faces) × (length m.faces ≤ 256)
-  pub numbers : All (Face (length m.corners)) m.faces
+  pub numbers : AllByRecursion (Face (length m.corners)) m.faces
 
 abbrev pub Shaped : Mesh → Type 0
-Shaped m = All (Convex m.corners) m.faces
+Shaped m = AllByRecursion (Convex m.corners) m.faces
 
 abbrev pub Legal : Mesh → Type 0
 Legal m = Shaped m × Distinct (edges_of m)
 
 abbrev pub Bent : Mesh → ℕ → Type 0
 Bent m f =
-    (f < length m.faces) × All (Convex m.corners) (take f m.faces)
+    (f < length m.faces) × AllByRecursion (Convex m.corners) (take f m.faces)
     × (Convex m.corners (slice_index_or m.faces f []) → ⊥)
 
 abbrev pub Twice : Mesh → ℕ → Type 0

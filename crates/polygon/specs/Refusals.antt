@@ -15,7 +15,7 @@
 --                          left-over: something stands behind the last face.
 --                          bent: the first face that is not convex. twice: the first face with an edge that was used so before.
 use Rattle.std.specs.Prelude.{◌≡◌, ℕ, ◌+◌, ◌<◌, ◌≤◌, Bool, true, false, List, [], ◌∷◌, length, drop, ℤ, Some, Err, ◌≢◌, unsigned_abs}
-use Rattle.std.specs.List.{AllByRecursion as All}
+use Rattle.std.specs.List.{AllByRecursion}
 use Rattle.text.specs.declared.faults.Fault.{Fault}
 use Rattle.text.specs.declared.faults.Ground.{Ground}
 use Rattle.text.specs.declared.faults.Ground.TheVariants.{Early, Heading, Limits, Over, Coordinate, Corner, Shape, Edge}
@@ -51,7 +51,7 @@ pub data WrongCorner (t : List ℕ) (p : ℕ) (f : Fault) : Type 0 where
 pub data WrongFace (c : ℕ) (t : List ℕ) (p : ℕ) (f : Fault) : Type 0 where
   in_size : Wrong Corner (λ v. (3 ≤ v) × (v ≤ 16)) t p f → WrongFace c t p f
   in_number : (s q : ℕ) → Plain (drop p t) s (drop q t) → (3 ≤ s) × (s ≤ 16)
-      → (ns : List ℕ) (r : ℕ) → Each Plain (drop q t) ns (drop r t) → All (λ v. v < c) ns → length ns < s
+      → (ns : List ℕ) (r : ℕ) → Each Plain (drop q t) ns (drop r t) → AllByRecursion (λ v. v < c) ns → length ns < s
       → Wrong Corner (λ v. v < c) t r f → WrongFace c t p f
 
 pub record Counted (t : List ℕ) (c n p : ℕ) : Type 0 where
@@ -69,7 +69,7 @@ pub record Cornered (t : List ℕ) (c n : ℕ) (ps : List Point) (p : ℕ) : Typ
   pub start : ℕ
   pub counted : Counted t c n start
   pub spelt : Each CornerSpelt (drop start t) ps (drop p t)
-  pub posts : All PostAt ps
+  pub posts : AllByRecursion PostAt ps
 
 pub record Faced (t : List ℕ) (c n : ℕ) (fs : List (List ℕ)) (p : ℕ) : Type 0 where
   pub corners : List Point
@@ -77,7 +77,7 @@ pub record Faced (t : List ℕ) (c n : ℕ) (fs : List (List ℕ)) (p : ℕ) : T
   pub cornered : Cornered t c n corners start
   pub all : length corners ≡ c
   pub spelt : Each FaceSpelt (drop start t) fs (drop p t)
-  pub faces : All (Face c) fs
+  pub faces : AllByRecursion (Face c) fs
 
 pub data Faulty (t : List ℕ) (f : Fault) : Type 0 where
   bare : t ≡ 79 ∷ (70 ∷ (70 ∷ [])) → f ≡ fault Early (length t) → Faulty t f

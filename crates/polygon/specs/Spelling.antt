@@ -7,7 +7,7 @@
 --   Spells t m               the text t spells the plan m: the heading OFF and white space; how many corners, faces and edges there
 --                            are; the corners; the faces; and then only white space. The count of edges may be any number
 use Rattle.std.specs.Prelude.{◌≡◌, ℕ, List, [], ◌∷◌, length, pos}
-use Rattle.std.specs.List.{AllByRecursion as All}
+use Rattle.std.specs.List.{AllByRecursion}
 use Rattle.text.specs.Bytes.{White}
 use Rattle.text.specs.Numerals.{Ends, Plain, Signed}
 use Rattle.plane.specs.Separation.{Point}
@@ -38,4 +38,4 @@ pub record Spells (t : List ℕ) (m : Mesh) : Type 0 where
   pub corners : Each CornerSpelt after_edge_count m.corners after_corners
   pub after_faces : List ℕ
   pub faces : Each FaceSpelt after_corners m.faces after_faces
-  pub over : All White after_faces
+  pub over : AllByRecursion White after_faces

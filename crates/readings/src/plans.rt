@@ -1,11 +1,10 @@
 // Plans, read and refused.
 use grid::{Size, read};
 use std::process::Abort;
-use std::test::Fail;
 use text::Fault;
 
 // The text is refused so, and the space is left all zeros.
-fn refused(rt: &impl Abort, text: &[u8], number: u8, layer: u8, place: usize) -> Result<(), Fail> {
+fn refused(rt: &impl Abort, text: &[u8], number: u8, layer: u8, place: usize) {
     let mut space = [7u8; 1539];
     assert_eq!(rt;
         read(text, &mut space),
@@ -13,12 +12,12 @@ fn refused(rt: &impl Abort, text: &[u8], number: u8, layer: u8, place: usize) ->
             number,
             layer,
             place,
-        })
+        }),
+        "{number} at {place}"
     );
     for x in space {
         assert_eq!(rt; x, 0);
     }
-    Ok(())
 }
 
 // The text is a plan of this size.
@@ -28,7 +27,7 @@ fn accepted(rt: &impl Abort, text: &[u8], w: u16, h: u16) {
 }
 
 #[test]
-fn refusals(rt: HostRuntime) -> Result<(), Fail> {
+fn refusals(rt: HostRuntime) {
     let cases = [
         ("P1 5 5 2", 10, 1, 7),
         ("P1 5 5 1111-", 10, 1, 11),
@@ -64,9 +63,8 @@ fn refusals(rt: HostRuntime) -> Result<(), Fail> {
         ("P1 5 5 11111 10001 10001", 16, 3, 21),
     ];
     for (text, number, layer, place) in cases {
-        refused(&rt, text.as_bytes(), number, layer, place).note(text)?;
+        refused(&rt, text.as_bytes(), number, layer, place);
     }
-    Ok(())
 }
 
 // A space that is too short stays as it was.
@@ -103,7 +101,7 @@ fn pixels(rt: HostRuntime) {
 
 // Each byte of white space parts numbers and pixels, and no other byte does.
 #[test]
-fn white_space(rt: HostRuntime) -> Result<(), Fail> {
+fn white_space(rt: HostRuntime) {
     for b in 0..=255u8 {
         let mut text = *b"P1 3 3 111 101 111 ";
         for x in text.iter_mut() {
@@ -114,10 +112,9 @@ fn white_space(rt: HostRuntime) -> Result<(), Fail> {
         if b == 32 || (9 <= b && b <= 13) {
             accepted(&rt, &text, 1, 1);
         } else {
-            refused(&rt, &text, 13, 2, 0)?;
+            refused(&rt, &text, 13, 2, 0);
         }
     }
-    Ok(())
 }
 
 // Writes `front` over the front of `text`.
@@ -143,11 +140,11 @@ fn open_rooms(text: &mut [u8], w: u16, h: u16) {
 
 // The longest text, and one byte more.
 #[test]
-fn long_texts(rt: HostRuntime) -> Result<(), Fail> {
+fn long_texts(rt: HostRuntime) {
     let mut text = [b' '; 60_001];
     begin(&mut text, b"P1 3 3 111101111");
     accepted(&rt, &text[0..60_000], 1, 1);
-    refused(&rt, &text, 14, 2, 60_000)
+    refused(&rt, &text, 14, 2, 60_000);
 }
 
 // The largest plans: 16 by 16 rooms, 256 by 1, and 1 by 256.

@@ -1,7 +1,7 @@
 -- The rows of a bitmap, one behind the other.
 use Rattle.std.proofs.Common.{◌≡◌, ℕ, zero, suc, ◌+◌, ◌-◌, ◌*◌, ◌/◌, ◌%◌, ◌<◌, ◌≤◌, Bool, true, false, ◌&&◌, ltb, List, [], ◌∷◌, ◌++◌, length, get_or, take, drop, Some, None, decimal, sym, refl, ap, ◌∙◌, subst, ⊎_elim, mul-le-mul_right, suc-mul, add-mul, one-mul, zero-mul, add-one, arith}
 use borrow.Rule.Slice.PartMut.{put_mid, post_of}
-use Rattle.std.specs.List.{AllByRecursion as All}
+use Rattle.std.specs.List.{AllByRecursion}
 use Rattle.std.proofs.lemmas.List.FromFn.{length-map-range_with_len, get_or-map-range_with_len}
 use Rattle.std.proofs.ByRecursion.{All-append, All-from_get_or, All-weaker}
 use Rattle.std.proofs.lemmas.List.{append_assoc, drop_at, drop-drop, length-append, get_or_append_left, get_or-append_right, take_at}
@@ -109,7 +109,7 @@ pixel n v a b l h =
     ∙ bit_binary (λ i. below n (v a) (8 * (b / 8) + i)) (b % 8) (omega arith)
     ∙ ap (λ (x : ℕ). below n (v a) x) z
 
-packed_bytes : (n : ℕ) (s : Numbers) → All (λ x. x < 256) (packed n s)
+packed_bytes : (n : ℕ) (s : Numbers) → AllByRecursion (λ x. x < 256) (packed n s)
 unfolding octet
 packed_bytes n s =
     All-from_get_or (λ (x : ℕ). x < 256) (packed n s) 0
@@ -117,16 +117,16 @@ packed_bytes n s =
     let h : i < width n = omega (arith, length_packed n s) in
     subst (λ (x : ℕ). x < 256) (sym (get_or_packed n s i h)) (binary_below 8 (λ j. below n s (8 * i + j))))
 
-pixels_bytes : (n m : ℕ) (v : ℕ → Numbers) → All (λ x. x < 256) (pixels n m v)
+pixels_bytes : (n m : ℕ) (v : ℕ → Numbers) → AllByRecursion (λ x. x < 256) (pixels n m v)
 unfolding pixels
 pixels_bytes n zero v = tt
 pixels_bytes n (suc m) v =
     All-append (λ (x : ℕ). x < 256) (pixels n m v) (packed n (v m)) (pixels_bytes n m v) (packed_bytes n (v m))
 
-heading_bytes : (ds : List ℕ) → All Digit ds → All (λ x. x < 256) (80 ∷ 52 ∷ 10 ∷ (ds ++ 32 ∷ (ds ++ 10 ∷ [])))
+heading_bytes : (ds : List ℕ) → AllByRecursion Digit ds → AllByRecursion (λ x. x < 256) (80 ∷ 52 ∷ 10 ∷ (ds ++ 32 ∷ (ds ++ 10 ∷ [])))
 heading_bytes ds h =
     let P : ℕ → Type 0 = λ x. x < 256 in
-    let small : All P ds = All-weaker Digit P (λ x d. omega arith) ds h in
+    let small : AllByRecursion P ds = All-weaker Digit P (λ x d. omega arith) ds h in
     (omega arith, (omega arith, (omega arith, All-append P ds _ small (omega arith, All-append P ds _ small (omega arith, tt)))))
 
 -- the bitmap, in the format's words

@@ -1,6 +1,6 @@
 -- The crossings of a walk are a path, so that the laws of stabbers speak of them.
 use Rattle.std.proofs.Common.{◌≡◌, ℕ, suc, ◌<◌, ◌≤◌, Bool, true, false, not, List, [], ◌∷◌, length, ℤ, is_some as option_is_some, Some, None, Option, sym, refl, ap, ◌∙◌, subst, ⊎_elim, arith}
-use Rattle.std.specs.List.{AllByRecursion as All}
+use Rattle.std.specs.List.{AllByRecursion}
 use Rattle.std.proofs.lemmas.Bool.{false≢true, eq-eqb, ne_eqb}
 use Rattle.plane.specs.Limits.{Path, Crosses, InLimits}
 use Rattle.plane.specs.Separation.{Point, Coefficients, Proper, Separates, Stabbed}
@@ -29,7 +29,7 @@ backward_crosses d = (
       d.crossing.apart (ap (λ (p : Point). p.0) (sym e)) (ap (λ (p : Point). p.1) (sym e)),
 )
 
-goes_cross : (w : World) (e : Numbers) (a : ℕ) (ks : List ℕ) (b : ℕ) (p : List Quad) → Goes w e a ks b p → All Crosses p
+goes_cross : (w : World) (e : Numbers) (a : ℕ) (ks : List ℕ) (b : ℕ) (p : List Quad) → Goes w e a ks b p → AllByRecursion Crosses p
 goes_cross w e a [] b [] g = tt
 goes_cross w e a [] b (q ∷ p) g = absurd g
 goes_cross w e a (k ∷ ks) b [] g = absurd g

@@ -1,6 +1,6 @@
 -- A row that shows neither side of a doorway does not change with it.
 use Rattle.std.proofs.Common.{◌≡◌, ℕ, Bool, true, false, cond, eqb, ◌⊎◌, List, [], ◌∷◌, ◌++◌, Some, None, Option, unwrap_or, sym, refl, ap, ◌∙◌, subst, inl, inr, ⊎_elim}
-use Rattle.std.specs.List.{slice_get, AllByRecursion as All}
+use Rattle.std.specs.List.{slice_get, AllByRecursion}
 use Rattle.std.proofs.lemmas.List.{append_assoc, append-nil}
 use Rattle.std.proofs.ByRecursion.{All-weaker}
 use Rattle.std.proofs.lemmas.Bool.{cases_eq, ne_eqb, cond-false}
@@ -18,8 +18,8 @@ module _ (w : World) (lawful : Lawful w) (shut : Numbers) (k : ℕ) (d : Doorway
       (e : Numbers) (a : ℕ) (ks : List ℕ) (b : ℕ) (s p : List Quad)
       → ((js : List ℕ) (c : ℕ) (r : List Quad) → Goes w e a js c r → Open shut js → w.lets (p ++ r) ≡ true
       → (d.near ≡ c → ⊥) × (d.far ≡ c → ⊥))
-      → Goes w e a ks b s → All (λ j. (j ≡ k) ⊎ (shut j ≡ false)) ks → w.lets (p ++ s) ≡ true
-      → All (λ j. (j ≡ k → ⊥) × (shut j ≡ false)) ks
+      → Goes w e a ks b s → AllByRecursion (λ j. (j ≡ k) ⊎ (shut j ≡ false)) ks → w.lets (p ++ s) ≡ true
+      → AllByRecursion (λ j. (j ≡ k → ⊥) × (shut j ≡ false)) ks
   avoids e a [] b s p far-off g o y = tt
   avoids e a (j ∷ ks) b [] p far-off g o y = absurd g
   avoids e a (j ∷ ks) b (q ∷ s) p far-off g o y =
@@ -42,8 +42,8 @@ module _ (w : World) (lawful : Lawful w) (shut : Numbers) (k : ℕ) (d : Doorway
 
   module _ (a : ℕ) (no_near : TrueRow w shut a d.near → ⊥) (no-far : TrueRow w shut a d.far → ⊥) where
     walk_avoids :
-        (ks : List ℕ) (b : ℕ) (s : List Quad) → Walk w a ks b s → All (λ j. (j ≡ k) ⊎ (shut j ≡ false)) ks → w.lets s ≡ true
-        → All (λ j. (j ≡ k → ⊥) × (shut j ≡ false)) ks
+        (ks : List ℕ) (b : ℕ) (s : List Quad) → Walk w a ks b s → AllByRecursion (λ j. (j ≡ k) ⊎ (shut j ≡ false)) ks → w.lets s ≡ true
+        → AllByRecursion (λ j. (j ≡ k → ⊥) × (shut j ≡ false)) ks
     walk_avoids ks b s g o y =
         avoids (only a) a ks b s []
         (λ js c r g' o' y'. (

@@ -13,7 +13,7 @@
 --                      decimal numeral ds of n, and then n rows of (n + 7) / 8 bytes; room b of row a is bit 7 − b mod 8 of
 --                      byte b / 8 of that row, and the spare bits are 0
 use Rattle.std.specs.Prelude.{◌≡◌, ℕ, zero, suc, ◌+◌, ◌-◌, ◌*◌, ◌/◌, ◌%◌, ◌<◌, ◌≤◌, Bool, true, false, cond, ◌&&◌, List, [], ◌∷◌, ◌++◌, map, length, Some, None, decimal, Option, nat_lt, slice_index}
-use Rattle.std.specs.List.{range_with_len, AllByRecursion as All}
+use Rattle.std.specs.List.{range_with_len, AllByRecursion}
 use Rattle.sightlines.specs.declared.refusal.Refusal.{Refusal}
 use Rattle.sightlines.specs.declared.refusal.Refusal.TheVariants.{NotFilled, SpaceTooShort}
 use Rattle.sightlines.specs.Bits.{bit}
@@ -64,4 +64,4 @@ pub record Pbm (n : ℕ) (v : ℕ → Numbers) (bs : List ℕ) : Type 0 where
   pub size : length rows ≡ n * width n
   pub rooms : (a b : ℕ) → a < n → b < n → bit (slice_index rows (a * width n + b / 8)) (7 - b % 8) ≡ v a b
   pub spare : (a b : ℕ) → a < n → n ≤ b → b < 8 * width n → bit (slice_index rows (a * width n + b / 8)) (7 - b % 8) ≡ false
-  pub bytes : All (λ x. x < 256) bs
+  pub bytes : AllByRecursion (λ x. x < 256) bs

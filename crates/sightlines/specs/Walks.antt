@@ -8,7 +8,7 @@
 --   TrueRow w shut a b    some open walk from a that is let through leads to b: b is in the true row of a
 --   Lined w shut a b       some open walk from a to b has a separating line
 use Rattle.std.specs.Prelude.{◌≡◌, ℕ, true, false, ◌⊎◌, List, [], ◌∷◌, Some}
-use Rattle.std.specs.List.{slice_get, AllByRecursion as All}
+use Rattle.std.specs.List.{slice_get, AllByRecursion}
 use Rattle.plane.specs.declared.quad.Quad.{Quad}
 use Rattle.plane.specs.Separation.{Stabbed}
 use Rattle.maps.specs.declared.doorway.Doorway.{Doorway}
@@ -40,7 +40,7 @@ abbrev pub Walk : World → ℕ → List ℕ → ℕ → List Quad → Type 0
 Walk w a ks b p = Goes w (only a) a ks b p
 
 abbrev pub Open : Numbers → List ℕ → Type 0
-Open shut ks = All (λ k. shut k ≡ false) ks
+Open shut ks = AllByRecursion (λ k. shut k ≡ false) ks
 
 abbrev pub TrueRow : World → Numbers → ℕ → ℕ → Type 0
 TrueRow w shut a b = (ks : List ℕ) × (p : List Quad) × Walk w a ks b p × Open shut ks × (w.lets p ≡ true)

@@ -1,7 +1,7 @@
 -- A refuted post has no line, and where each left post is refuted, the path has none: if any line separates the path, then
 -- so does one through a left post.
 use Rattle.std.proofs.Common.{◌≡◌, ℕ, ◌<◌, ◌≤◌, Bool, true, false, cond, List, [], ◌∷◌, length, get_or, take, Some, None, Option, refl, subst, arith}
-use Rattle.std.specs.List.{AllByRecursion as All}
+use Rattle.std.specs.List.{AllByRecursion}
 use Rattle.std.proofs.ByRecursion.{All-get_or}
 use Rattle.std.proofs.lemmas.List.{get_or-take, length-take-le}
 use Rattle.std.proofs.lemmas.Bool.Decides.{not_from_Decides}
@@ -37,7 +37,7 @@ refuted_none p P (Q ∷ Qs) refuted =
     ] (not_from_Decides _ (same_point_decides P Q))
 
 -- a line of the path would go through some left post
-no_line : (p : List Quad) (l : Coefficients) → (p ≡ [] → ⊥) → All Crosses p → All (λ q. Refuted (left q) p) p →
+no_line : (p : List Quad) (l : Coefficients) → (p ≡ [] → ⊥) → AllByRecursion Crosses p → AllByRecursion (λ q. Refuted (left q) p) p →
     first_line p ≡ Some l → ⊥
 no_line [] l not_empty h all e = not_empty refl
 no_line (q ∷ p) l not_empty h all e =
@@ -47,7 +47,7 @@ no_line (q ∷ p) l not_empty h all e =
     let (m, refuted, (P, Q, _, _, two, parts, on)) = through_left _ path not_empty (apart path h) stabbed all in
     refuted (through P Q) (through_proper P Q two) on parts
 
-pub all_refuted_none : (p : List Quad) → All Crosses p → All (λ q. Refuted (left q) p) p → None ≡ first_line p
+pub all_refuted_none : (p : List Quad) → AllByRecursion Crosses p → AllByRecursion (λ q. Refuted (left q) p) p → None ≡ first_line p
 unfolding first_line
 all_refuted_none [] h all = refl
 all_refuted_none (q ∷ p) h all =
@@ -58,6 +58,6 @@ all_refuted_none (q ∷ p) h all =
 
 -- what holds of each element of a front holds at its places
 pub in_front : {X : Type 0} (P : X → Type 0) (xs : List X) (n i : ℕ) (d : X) → i < n → n ≤ length xs →
-    All P (take n xs) → P (get_or xs i d)
+    AllByRecursion P (take n xs) → P (get_or xs i d)
 in_front P xs n i d h k all =
     subst P (get_or-take n xs i d h) (All-get_or P (take n xs) i d (omega (arith, length-take-le n xs k)) all)

@@ -1,6 +1,6 @@
 -- A line that is found from the first left post among the first crossings is the first of all.
 use Rattle.std.proofs.Common.{◌≡◌, ℕ, zero, suc, ◌<◌, Bool, true, false, cond, List, [], ◌∷◌, ◌++◌, length, get_or, take, drop, Some, None, Option, sym, refl, ap, ◌∙◌, subst, arith}
-use Rattle.std.specs.List.{AllByRecursion as All}
+use Rattle.std.specs.List.{AllByRecursion}
 use Rattle.std.proofs.lemmas.List.{take-append-drop}
 use Rattle.plane.specs.declared.quad.Quad.{Quad}
 use Rattle.plane.specs.First.{first}
@@ -10,7 +10,7 @@ use Rattle.plane.specs.Tests.{same_point}
 use Rattle.stabbing.specs.Exact.{fan, tries}
 use Rattle.stabbing.specs.Answers.{not_some}
 
-pub all_take : {X : Type 0} (P : X → Type 0) (n : ℕ) (xs : List X) → All P xs → All P (take n xs)
+pub all_take : {X : Type 0} (P : X → Type 0) (n : ℕ) (xs : List X) → AllByRecursion P xs → AllByRecursion P (take n xs)
 all_take P zero xs h = tt
 all_take P (suc n) [] h = tt
 all_take P (suc n) (x ∷ xs) h = (h.0, all_take P n xs h.1)

@@ -1,7 +1,7 @@
 -- Exact has a line exactly for the paths that some line separates, and its line is one within the limits.
 use Rattle.std.proofs.Common.{◌≡◌, ℕ, zero, suc, ◌<◌, Bool, true, false, cond, List, [], ◌∷◌, ◌++◌, length, get_or, pos, is_some, Some, None, Decides, Option, sym, refl, ap, ◌∙◌, subst, le_of_suc-le-suc, arith}
 use Rattle.std.specs.Option.{option_map}
-use Rattle.std.specs.List.{ContainsAt as Has, AllByRecursion as All}
+use Rattle.std.specs.List.{ContainsAt as Has, AllByRecursion}
 use Rattle.std.proofs.ByRecursion.{All-weaker}
 use Rattle.std.proofs.lemmas.Bool.Decides.{Decides-at}
 use Rattle.plane.specs.declared.quad.Quad.{Quad}
@@ -19,7 +19,7 @@ use Rattle.stabbing.specs.Limited.{posts_limited, tries_limited}
 use Rattle.stabbing.specs.Tries.{fan_more, tries_more}
 
 -- what the first that passes is
-first_is : {X : Type 0} (t : X → Bool) (P : X → Type 0) (xs : List X) (x : X) → All P xs → first t xs ≡ Some x → P x × (t x ≡ true)
+first_is : {X : Type 0} (t : X → Bool) (P : X → Type 0) (xs : List X) (x : X) → AllByRecursion P xs → first t xs ≡ Some x → P x × (t x ≡ true)
 first_is t P [] x h e = not_some x e
 first_is t P (y ∷ ys) x (h, hs) e =
     elim (t y) as (λ b. t y ≡ b → cond b (Some y) (first t ys) ≡ Some x → P x × (t x ≡ true)) [
@@ -41,7 +41,7 @@ module _ (t : Coefficients → Bool) where
   tries_has P (R ∷ Rs) Qs zero h e f = ap is_some (tries_more t R Rs Qs) ∙ some_left (first t (fan R Qs)) (first t (tries Rs Qs)) (ap (λ S. is_some (first t (fan S Qs))) e ∙ f)
   tries_has P (R ∷ Rs) Qs (suc k) h e f = ap is_some (tries_more t R Rs Qs) ∙ some_right (first t (fan R Qs)) (first t (tries Rs Qs)) (tries_has P Rs Qs k (le_of_suc-le-suc h) e f)
 
-pub line_through_is : (p : List Quad) (l : Coefficients) → All Crosses p → line_through p ≡ Some l → Proper l × InLimits l × Separates l p
+pub line_through_is : (p : List Quad) (l : Coefficients) → AllByRecursion Crosses p → line_through p ≡ Some l → Proper l × InLimits l × Separates l p
 unfolding first_line
 line_through_is [] l h e =
     let P : Coefficients → Type 0 = λ k. Proper k × InLimits k × Separates k [] in
@@ -62,11 +62,11 @@ exact_is p l e =
     let is = line_through_is p l path.1 yes.1 in
     (path, is.0, is.1, is.2)
 
-pub apart : (p : List Quad) → All Crosses p → All Apart p
+pub apart : (p : List Quad) → AllByRecursion Crosses p → AllByRecursion Apart p
 apart p h = All-weaker Crosses Apart (λ q k. k.2) p h
 
 -- a path that some line separates has a line through two of its posts
-line_through_has : (p : List Quad) → All Crosses p → Stabbed p → is_some (line_through p) ≡ true
+line_through_has : (p : List Quad) → AllByRecursion Crosses p → Stabbed p → is_some (line_through p) ≡ true
 unfolding first_line
 line_through_has [] h s = refl
 line_through_has (q ∷ p) h s =

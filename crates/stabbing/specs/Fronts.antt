@@ -1,11 +1,11 @@
 -- What holds of a path holds of the path without its last crossing.
 use Rattle.std.proofs.Common.{List, [], ◌∷◌, ◌++◌, length, arith, length-append}
-use Rattle.std.specs.List.{AllByRecursion as All}
+use Rattle.std.specs.List.{AllByRecursion}
 use Rattle.plane.specs.declared.quad.Quad.{Quad}
 use Rattle.plane.specs.Limits.{Crosses, Path}
 use Rattle.plane.specs.Separation.{Parts, Stabbed}
 
-pub all_front : {X : Type 0} (P : X → Type 0) (xs ys : List X) → All P (xs ++ ys) → All P xs
+pub all_front : {X : Type 0} (P : X → Type 0) (xs ys : List X) → AllByRecursion P (xs ++ ys) → AllByRecursion P xs
 all_front P [] ys h = tt
 all_front P (x ∷ xs) ys (h, hs) = (h, all_front P xs ys hs)
 

@@ -3,7 +3,7 @@ use Rattle.std.proofs.Common.{◌≡◌, ◌≤◌, Bool, true, false, cond, Lis
 use Rattle.std.proofs.ByRecursion.{All-append}
 use Rattle.std.proofs.lemmas.Int.{ints}
 use Rattle.std.proofs.lemmas.Bool.Decides.{not_from_Decides}
-use Rattle.std.specs.List.{AllByRecursion as All}
+use Rattle.std.specs.List.{AllByRecursion}
 use Rattle.plane.specs.declared.quad.Quad.{Quad}
 use Rattle.plane.specs.Limits.{Crosses, InLimits, PostAt}
 use Rattle.plane.specs.Lines.{posts, through}
@@ -32,20 +32,20 @@ through_proper P Q apart a b =
     let x : P.0 ≡ Q.0 = omega (arith, ints) in
     apart (ap₂ (λ u v. (u, v)) x y)
 
-pub fan_limited : (P : Point) (Qs : List Point) → PostAt P → All PostAt Qs → All (λ l. Proper l × InLimits l) (fan P Qs)
+pub fan_limited : (P : Point) (Qs : List Point) → PostAt P → AllByRecursion PostAt Qs → AllByRecursion (λ l. Proper l × InLimits l) (fan P Qs)
 fan_limited P [] h hs = tt
 fan_limited P (Q ∷ Qs) h (k, ks) =
     let rest = fan_limited P Qs h ks in
     let d = same_point_decides P Q in
-    elim (same_point P Q) as (λ b. (b ≡ false → P ≡ Q → ⊥) → All (λ l. Proper l × InLimits l) (cond b (fan P Qs) (through P Q ∷ fan P Qs))) [
+    elim (same_point P Q) as (λ b. (b ≡ false → P ≡ Q → ⊥) → AllByRecursion (λ l. Proper l × InLimits l) (cond b (fan P Qs) (through P Q ∷ fan P Qs))) [
       | true ↦ λ _. rest
       | false ↦ λ f. ((through_proper P Q (f refl), through_limits P Q h k), rest)
     ] (not_from_Decides _ d)
 
-pub tries_limited : (Ps Qs : List Point) → All PostAt Ps → All PostAt Qs → All (λ l. Proper l × InLimits l) (tries Ps Qs)
+pub tries_limited : (Ps Qs : List Point) → AllByRecursion PostAt Ps → AllByRecursion PostAt Qs → AllByRecursion (λ l. Proper l × InLimits l) (tries Ps Qs)
 tries_limited [] Qs hs ks = tt
 tries_limited (P ∷ Ps) Qs (h, hs) ks = All-append _ (fan P Qs) (tries Ps Qs) (fan_limited P Qs h ks) (tries_limited Ps Qs hs ks)
 
-pub posts_limited : (p : List Quad) → All Crosses p → All PostAt (posts p)
+pub posts_limited : (p : List Quad) → AllByRecursion Crosses p → AllByRecursion PostAt (posts p)
 posts_limited [] h = tt
 posts_limited (q ∷ p) (h, hs) = (h.0, (h.1, posts_limited p hs))

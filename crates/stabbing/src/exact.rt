@@ -1,7 +1,7 @@
 // Exact: the first line through two posts of the path that separates it.
 ghost use Rattle.std.specs.Prelude.{◌≡◌, true, [], ◌∷◌, is_some, Some, Decides};
 ghost use Rattle.std.specs.Option.{option_map};
-ghost use Rattle.std.specs.List.{ContainsAt as Has, AllByRecursion as All};
+ghost use Rattle.std.specs.List.{ContainsAt as Has, AllByRecursion};
 ghost use Rattle.plane.specs.First.{first};
 ghost use Rattle.plane.specs.Limits.{Crosses, Path};
 ghost use Rattle.plane.specs.Lines.{TwoPosts, posts};
@@ -47,7 +47,7 @@ fn to_crossing(p: Post, far: &Quad, path: &[Quad]) -> Option<Line>
 
 // The first line from p to a post of the crossings that separates the path.
 fn from_post(p: Post, crossings: &[Quad], path: &[Quad]) -> Option<Line>
-    requires { All Crosses crossings.now }
+    requires { AllByRecursion Crosses crossings.now }
     ensures { option_map coefficients result ≡ first (λ l. separates l path.now) (fan (place p) (posts crossings.now)) }
 {
     for far in crossings {
@@ -60,7 +60,7 @@ fn from_post(p: Post, crossings: &[Quad], path: &[Quad]) -> Option<Line>
 
 // The first line from a post of the crossing to a post of the path that separates the path, where the left post is refuted.
 fn from_right(near: &Quad, path: &[Quad]) -> Option<Line>
-    requires { (All Crosses path.now) × ((Has path.now near.now) × (Refuted (left near.now) path.now)) }
+    requires { (AllByRecursion Crosses path.now) × ((Has path.now near.now) × (Refuted (left near.now) path.now)) }
     ensures { option_map coefficients result ≡ first (λ l. separates l path.now) (tries (posts (near.now ∷ [])) (posts path.now)) }
 {
     let from = ends(near);
@@ -72,7 +72,7 @@ fn from_right(near: &Quad, path: &[Quad]) -> Option<Line>
 
 // The same, where the left post may be refuted.
 fn from_crossing(near: &Quad, left_refuted: bool, path: &[Quad]) -> Option<Line>
-    requires { (All Crosses path.now) × ((Has path.now near.now) × ((left_refuted ≡ true → Refuted (left near.now) path.now))) }
+    requires { (AllByRecursion Crosses path.now) × ((Has path.now near.now) × ((left_refuted ≡ true → Refuted (left near.now) path.now))) }
     ensures { option_map coefficients result ≡ first (λ l. separates l path.now) (tries (posts (near.now ∷ [])) (posts path.now)) }
 {
     if left_refuted {
@@ -88,7 +88,7 @@ fn from_crossing(near: &Quad, left_refuted: bool, path: &[Quad]) -> Option<Line>
 // The first line through two posts, where the first left post has it with one of the first two crossings: along a straight
 // corridor it does.
 fn from_start(path: &[Quad]) -> Option<Line>
-    requires { All Crosses path.now }
+    requires { AllByRecursion Crosses path.now }
     ensures { (l : Coefficients) → option_map coefficients result ≡ Some l → first_line path.now ≡ Some l }
 {
     let count = path.len().min(2);
@@ -101,7 +101,7 @@ fn from_start(path: &[Quad]) -> Option<Line>
 
 // The first line through two posts of the path that separates it. Where each left post is refuted, there is none.
 fn of_posts(path: &[Quad]) -> Option<Line>
-    requires { All Crosses path.now }
+    requires { AllByRecursion Crosses path.now }
     ensures { option_map coefficients result ≡ first_line path.now }
 {
     let refuted = refuted_front(path);
@@ -118,7 +118,7 @@ fn of_posts(path: &[Quad]) -> Option<Line>
 
 // The same, where a line from the first left post is tried before any post is refuted.
 fn of_path(path: &[Quad]) -> Option<Line>
-    requires { All Crosses path.now }
+    requires { AllByRecursion Crosses path.now }
     ensures { option_map coefficients result ≡ first_line path.now }
 {
     match from_start(path) {

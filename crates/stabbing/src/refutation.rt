@@ -2,7 +2,7 @@
 // at 0 or below at each right post. So its value falls along none of the arrows from p to the left posts and from the right
 // posts to p, and these lie in a half-plane.
 ghost use Rattle.std.specs.Prelude.{◌≡◌, ◌≤◌, true, length, take, pos, MatchOption};
-ghost use Rattle.std.specs.List.{ContainsAt as Has, AllByRecursion as All};
+ghost use Rattle.std.specs.List.{ContainsAt as Has, AllByRecursion};
 ghost use Rattle.plane.specs.Limits.{Crosses};
 ghost use Rattle.plane.specs.Separation.{Coefficients, Parts, Proper, left, value};
 ghost use Rattle.plane.specs.Shapes.{place};
@@ -29,7 +29,7 @@ fn passed(span: Span, p: Post, quad: &Quad) -> Option<Span>
 // Whether the arrows of p lie in no half-plane: then no line through p separates the path. The newest crossings come first,
 // since they refute most often; `own` is any crossing of the path, best one that has p.
 pub(crate) fn refuted(p: Post, own: &Quad, path: &[Quad]) -> bool
-    requires { (All Crosses path.now) × (Has path.now own.now) }
+    requires { (AllByRecursion Crosses path.now) × (Has path.now own.now) }
     ensures { result ≡ true → Refuted (place p) path.now }
 {
     let posts = ends(own);
@@ -45,9 +45,9 @@ pub(crate) fn refuted(p: Post, own: &Quad, path: &[Quad]) -> bool
 
 // How many left posts are refuted, from the start of the path on to the first that is not.
 pub(crate) fn refuted_front(path: &[Quad]) -> usize
-    requires { All Crosses path.now }
+    requires { AllByRecursion Crosses path.now }
     ensures bound { result ≤ length path.now }
-    ensures all { All (λ q. Refuted (left q) path.now) (take result path.now) }
+    ensures all { AllByRecursion (λ q. Refuted (left q) path.now) (take result path.now) }
 {
     for (k, own) in path.iter().enumerate() {
         if !refuted(ends(own).left, own, path) {

@@ -1,6 +1,6 @@
 // Wedge: a quick stabber that sets only three neighbouring crossings at a time against a line.
 ghost use Rattle.std.specs.Prelude.{◌≡◌, ◌≤◌, length, Decides};
-ghost use Rattle.std.specs.List.{AllByRecursion as All};
+ghost use Rattle.std.specs.List.{AllByRecursion};
 ghost use Rattle.plane.specs.Limits.{Path};
 ghost use Rattle.plane.specs.Separation.{Stabbed};
 ghost use Rattle.stabbing.specs.Wedge.{all_stabbed, neighbours, threes, wedge_lets};
@@ -28,7 +28,7 @@ fn all_neighbours(path: &[Quad]) -> bool
 // Whether the path has a separating line for each three neighbouring crossings; a shorter one, for the whole.
 pub fn wedge_lets(path: &[Quad]) -> bool
     ensures value { result ≡ wedge_lets path.now }
-    ensures test { Decides result (Path path.now × All Stabbed (threes path.now)) }
+    ensures test { Decides result (Path path.now × AllByRecursion Stabbed (threes path.now)) }
 {
     if !is_path(path) {
         return false;

@@ -1,6 +1,6 @@
 -- The next mark: one byte of the way, and what was found in words.
 use Rattle.std.proofs.Common.{◌≡◌, ℕ, ◌+◌, ◌<◌, ◌≤◌, true, false, cond, ◌⊎◌, List, [], ◌∷◌, length, get_or, drop, Some, None, Option, sym, refl, ap, ◌∙◌, subst, inl, inr, arith}
-use Rattle.std.specs.List.{AllByRecursion as All}
+use Rattle.std.specs.List.{AllByRecursion}
 use Rattle.std.proofs.lemmas.List.{at_drop_more, at_drop_all, drop-drop}
 use Rattle.std.proofs.lemmas.Bool.{cond-true, cond-false}
 use Rattle.text.specs.Bytes.{White, white}
@@ -26,7 +26,7 @@ tail_at t at b bs e = sym (drop-drop 1 at t) ∙ ap (drop 1) e
 -- white space before what was found
 found_more : (t : List ℕ) (at b : ℕ) (r : Option (ℕ × ℕ)) (p : ℕ) → drop at t ≡ b ∷ drop (at + 1) t → White b → Found t (at + 1) r p → Found t at r p
 found_more t at b None p e w h =
-    (subst (All White) (sym e) (w, h.0), omega (arith, ap length e, h.1))
+    (subst (AllByRecursion White) (sym e) (w, h.0), omega (arith, ap length e, h.1))
 found_more t at b (Some k) p e w h =
     (b ∷ h.0, e ∙ ap (λ l. b ∷ l) h.1, (w, h.2), h.3, omega (arith, h.4), h.5)
 
@@ -43,7 +43,7 @@ module _ (t : List ℕ) (at b : ℕ) (bs : List ℕ) (e : drop at t ≡ b ∷ bs
       subst (λ (m : Mark). Found t at m.found m.at) (sym same) ([], next, tt, w, omega arith, refl)
 
 found_in : (t : List ℕ) (at : ℕ) (bs : List ℕ) → drop at t ≡ bs → Found t at (marks at bs).found (marks at bs).at
-found_in t at [] e = (subst (All White) (sym e) tt, omega (arith, ap length e))
+found_in t at [] e = (subst (AllByRecursion White) (sym e) tt, omega (arith, ap length e))
 found_in t at (b ∷ bs) e = found_step t at b bs e (found_in t (at + 1) bs (tail_at t at b bs e)) (cases_white b)
 
 pub finds : (t : List ℕ) (at : ℕ) (r : Option (ℕ × ℕ)) (p : ℕ) → r ≡ (marked t at).found → p ≡ (marked t at).at → Found t at r p

@@ -1,7 +1,7 @@
 -- Each way in which the next number can be spelt has its outcome, and every text is spelt in one of them.
 use Rattle.std.proofs.Common.{◌≡◌, ℕ, suc, ◌+◌, ◌-◌, ◌*◌, ◌^◌, ◌<◌, ◌≤◌, Bool, true, false, ◌⊎◌, List, [], ◌∷◌, ◌++◌, length, get_or, take, drop, IfOk, Ok, Err, Result, sym, refl, ap, ◌∙◌, subst, inl, inr, add-zero, arith, take-append-drop}
 use native.Mathlib.Nat.{pow-le-pow_right}
-use Rattle.std.specs.List.{AllByRecursion as All}
+use Rattle.std.specs.List.{AllByRecursion}
 use Rattle.std.proofs.lemmas.List.{length-take-le, drop_more, append_assoc, append-nil}
 use Rattle.std.proofs.ByRecursion.{All-take, All-get_or}
 use Rattle.std.proofs.lemmas.Bool.{cond-true, cond-false, cases_lt, cases_Bool, cases_eq, both_ways, false≢true}
@@ -41,12 +41,12 @@ module _ (s : Bool) (len : ℕ) where
   from : (st : State) (bs : List ℕ) (a b : ℕ) → a ≡ b → scanned s len a st bs ≡ scanned s len b st bs
   from st bs a b e = ap (λ x. scanned s len x st bs) e
 
-  run_white : (at : ℕ) (ws bs : List ℕ) → All White ws → scanned s len at Between (ws ++ bs) ≡ scanned s len (at + length ws) Between bs
+  run_white : (at : ℕ) (ws bs : List ℕ) → AllByRecursion White ws → scanned s len at Between (ws ++ bs) ≡ scanned s len (at + length ws) Between bs
   run_white at [] bs h = from Between bs at (at + 0) (omega arith)
   run_white at (w ∷ ws) bs h =
       byte at Between w (ws ++ bs) Blank (class_white w h.0) ∙ run_white (at + 1) ws bs h.1 ∙ from Between bs (at + 1 + length ws) (at + suc (length ws)) (omega arith)
 
-  run_digits : (at v : ℕ) (m : Bool) (p k : ℕ) (ds bs : List ℕ) → All Decimal ds → k + length ds ≤ 6
+  run_digits : (at v : ℕ) (m : Bool) (p k : ℕ) (ds bs : List ℕ) → AllByRecursion Decimal ds → k + length ds ≤ 6
       → scanned s len at (Digits (record { magnitude = v; negative = m; start = p }) k) (ds ++ bs) ≡ scanned s len (at + length ds) (Digits (record { magnitude = decimal_from v ds; negative = m; start = p }) (k + length ds)) bs
   run_digits at v m p k [] bs h few = λ i. scanned s len (sym (add-zero at) i) (Digits (record { magnitude = v; negative = m; start = p }) (sym (add-zero k) i)) bs
   run_digits at v m p k (d ∷ ds) bs h few =
@@ -67,7 +67,7 @@ module _ (s : Bool) (len : ℕ) where
   run_first at false d bs may h = byte at Between d bs (Digit (d - 48)) (class_decimal d h) ∙ from _ bs (at + 1) (at + 0 + 1) (omega arith)
 
   -- white space, a sign and up to six digits
-  run_number : (at : ℕ) (ws : List ℕ) (m : Bool) (ds bs : List ℕ) → All White ws → May s m → Numeral ds
+  run_number : (at : ℕ) (ws : List ℕ) (m : Bool) (ds bs : List ℕ) → AllByRecursion White ws → May s m → Numeral ds
       → scanned s len at Between (ws ++ (minus m ++ (ds ++ bs))) ≡ scanned s len (at + length ws + length (minus m) + length ds) (Digits (record { magnitude = decimal ds; negative = m; start = at + length ws }) (length ds)) bs
   run_number at ws m [] bs w may h = absurd (omega (arith, h.1))
   run_number at ws m (d ∷ ds) bs w may h =
@@ -142,7 +142,7 @@ module _ (s : Bool) (len : ℕ) where
   Spelt : ℕ → List ℕ → Type 0
   Spelt at bs = (o : Out Number) × Reads s len at bs o
 
-  module _ (at : ℕ) (bs ws : List ℕ) (m : Bool) (w : All White ws) (may : May s m) where
+  module _ (at : ℕ) (bs ws : List ℕ) (m : Bool) (w : AllByRecursion White ws) (may : May s m) where
     spelt_few : (ds rest : List ℕ) → bs ≡ ws ++ (minus m ++ (ds ++ rest)) → Numeral ds → Not Decimal rest → Spelt at bs
     unfolding Spelt
     spelt_few ds [] split n stops = (_, numeral ws m ds [] split w may n tt refl)
@@ -152,14 +152,14 @@ module _ (s : Bool) (len : ℕ) where
         go (inl h) = (_, numeral ws m ds (b ∷ rest) split w may n h refl)
         go (inr h) = (_, glued ws m ds (b ∷ rest) split w may n (stops, h) refl)
 
-    spelt_many : (ds rest : List ℕ) → bs ≡ ws ++ (minus m ++ (ds ++ rest)) → All Decimal ds → 6 < length ds → Spelt at bs
+    spelt_many : (ds rest : List ℕ) → bs ≡ ws ++ (minus m ++ (ds ++ rest)) → AllByRecursion Decimal ds → 6 < length ds → Spelt at bs
     unfolding Spelt
     spelt_many ds rest split all many =
         let six : length (take 6 ds) ≡ 6 = length-take-le 6 ds (omega arith) in
         let parts : ds ++ rest ≡ take 6 ds ++ (get_or ds 6 0 ∷ (drop 7 ds ++ rest)) = ap (λ l. l ++ rest) (sym (take-append-drop 6 ds) ∙ ap (λ l. take 6 ds ++ l) (drop_more ds 6 0 many)) ∙ append_assoc (take 6 ds) (get_or ds 6 0 ∷ drop 7 ds) rest in
         (_, long ws m (take 6 ds) (get_or ds 6 0) (drop 7 ds ++ rest) (split ∙ ap (λ l. ws ++ (minus m ++ l)) parts) w may (All-take Decimal 6 ds all) six (All-get_or Decimal ds 6 0 many all) refl)
 
-    spelt_digits : (ds rest : List ℕ) → bs ≡ ws ++ (minus m ++ (ds ++ rest)) → All Decimal ds → Not Decimal rest → 0 < length ds → Spelt at bs
+    spelt_digits : (ds rest : List ℕ) → bs ≡ ws ++ (minus m ++ (ds ++ rest)) → AllByRecursion Decimal ds → Not Decimal rest → 0 < length ds → Spelt at bs
     spelt_digits ds rest split all stops some = go (cases_lt 6 (length ds))
       where
         go : (6 < length ds) ⊎ (length ds ≤ 6) → Spelt at bs
@@ -167,13 +167,13 @@ module _ (s : Bool) (len : ℕ) where
         go (inr few) = spelt_few ds rest split (all, some, few) stops
 
     -- what stands behind the white space and the sign
-    spelt_tail : (ds rest : List ℕ) → bs ≡ ws ++ (minus m ++ (ds ++ rest)) → All Decimal ds → Not Decimal rest → ((b : ℕ) (more : List ℕ) → ds ++ rest ≡ b ∷ more → (Decimal b → ⊥) → Unfit s m (b ∷ more)) → Spelt at bs
+    spelt_tail : (ds rest : List ℕ) → bs ≡ ws ++ (minus m ++ (ds ++ rest)) → AllByRecursion Decimal ds → Not Decimal rest → ((b : ℕ) (more : List ℕ) → ds ++ rest ≡ b ∷ more → (Decimal b → ⊥) → Unfit s m (b ∷ more)) → Spelt at bs
     unfolding Spelt
     spelt_tail [] [] split all stops unfit = (_, nothing ws m (split ∙ ap (λ l. ws ++ l) (append-nil (minus m))) w may refl)
     spelt_tail [] (b ∷ rest) split all stops unfit = (_, stray ws m (b ∷ rest) split w may (unfit b rest refl stops) refl)
     spelt_tail (d ∷ ds) rest split all stops unfit = spelt_digits (d ∷ ds) rest split all stops (omega arith)
 
-  module _ (at : ℕ) (bs ws : List ℕ) (w : All White ws) where
+  module _ (at : ℕ) (bs ws : List ℕ) (w : AllByRecursion White ws) where
     spelt_plain : (b : ℕ) (rest : List ℕ) → bs ≡ ws ++ (b ∷ rest) → (White b → ⊥) → (s ≡ true → b ≡ 45 → ⊥) → Spelt at bs
     spelt_plain b rest split h sign =
         let t = span Decimal cases_decimal (b ∷ rest) in
@@ -216,7 +216,7 @@ settles s t at r p e h =
     }
 
 -- a number of at most six digits is below a million
-below : (v k : ℕ) (ds : List ℕ) → All Decimal ds → v < 10 ^ k → decimal_from v ds < 10 ^ (k + length ds)
+below : (v k : ℕ) (ds : List ℕ) → AllByRecursion Decimal ds → v < 10 ^ k → decimal_from v ds < 10 ^ (k + length ds)
 below v k [] h lt = rw (add-zero k) lt
 below v k (d ∷ ds) h lt =
     let e : k + 1 + length ds ≡ k + suc (length ds) = omega arith in

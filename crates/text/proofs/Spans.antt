@@ -1,6 +1,6 @@
 -- The longest front of a list of which a test holds.
 use Rattle.std.proofs.Common.{◌≡◌, ℕ, ◌⊎◌, List, [], ◌∷◌, ◌++◌, refl, ap, inl, inr}
-use Rattle.std.specs.List.{AllByRecursion as All}
+use Rattle.std.specs.List.{AllByRecursion}
 
 abbrev pub Not : (ℕ → Type 0) → List ℕ → Type 0
 Not P [] = Unit {0}
@@ -10,7 +10,7 @@ pub record Span (P : ℕ → Type 0) (bs : List ℕ) : Type 0 where
   pub front : List ℕ
   pub rest : List ℕ
   pub split : bs ≡ front ++ rest
-  pub all : All P front
+  pub all : AllByRecursion P front
   pub stops : Not P rest
 
 pub span : (P : ℕ → Type 0) → ((b : ℕ) → P b ⊎ (P b → ⊥)) → (bs : List ℕ) → Span P bs

@@ -6,7 +6,7 @@
 --   Found t at r p  r is the next mark of t from the place at, and p the place behind it: nothing, where only white space is left,
 --                   and p is the end; else a byte that is no white space, behind white space alone, with its place
 use Rattle.std.specs.Prelude.{◌≡◌, ℕ, ◌+◌, cond, List, [], ◌∷◌, ◌++◌, length, drop, Some, None, Option}
-use Rattle.std.specs.List.{AllByRecursion as All}
+use Rattle.std.specs.List.{AllByRecursion}
 use Rattle.std.specs.Option.{ok_or}
 use Rattle.text.specs.declared.faults.Ground.TheVariants.{Early}
 use Rattle.text.specs.Faults.{fault}
@@ -28,5 +28,5 @@ abbrev pub expected : List ℕ → ℕ → Out (ℕ × ℕ)
 expected t at = record { result = ok_or (marked t at).found (fault Early (length t)); at = (marked t at).at }
 
 abbrev pub Found : List ℕ → ℕ → Option (ℕ × ℕ) → ℕ → Type 0
-Found t at None p = All White (drop at t) × (p ≡ at + length (drop at t))
-Found t at (Some k) p = (ws : List ℕ) × (drop at t ≡ ws ++ (k.0 ∷ drop p t)) × All White ws × (White k.0 → ⊥) × (k.1 ≡ at + length ws) × (p ≡ k.1 + 1)
+Found t at None p = AllByRecursion White (drop at t) × (p ≡ at + length (drop at t))
+Found t at (Some k) p = (ws : List ℕ) × (drop at t ≡ ws ++ (k.0 ∷ drop p t)) × AllByRecursion White ws × (White k.0 → ⊥) × (k.1 ≡ at + length ws) × (p ≡ k.1 + 1)

@@ -18,7 +18,7 @@
 --   Settled s t at r p
 --                     the text t, read from the place at, is spelt so that the answer is r and the lexer then stands at p; and spelt so for no other outcome
 use Rattle.std.specs.Prelude.{◌≡◌, ℕ, ◌+◌, ◌-◌, ◌*◌, ◌<◌, ◌≤◌, Bool, true, false, cond, List, [], ◌∷◌, ◌++◌, length, drop, ℤ, pos, neg_ℤ, Ok, Err, Result, ◌≢◌}
-use Rattle.std.specs.List.{AllByRecursion as All}
+use Rattle.std.specs.List.{AllByRecursion}
 use Rattle.text.specs.declared.faults.Fault.{Fault}
 use Rattle.text.specs.declared.faults.Ground.TheVariants.{Stray, Long, Early}
 use Rattle.text.specs.declared.lexing.Number.{Number}
@@ -41,7 +41,7 @@ abbrev pub decimal : List ℕ → ℕ
 decimal ds = decimal_from 0 ds
 
 abbrev pub Numeral : List ℕ → Type 0
-Numeral ds = All Decimal ds × (0 < length ds) × (length ds ≤ 6)
+Numeral ds = AllByRecursion Decimal ds × (0 < length ds) × (length ds ≤ 6)
 
 abbrev pub Ends : List ℕ → Type 0
 Ends [] = Unit {0}
@@ -60,7 +60,7 @@ pub record Plain (bs : List ℕ) (v : ℕ) (rest : List ℕ) : Type 0 where
   pub ws : List ℕ
   pub ds : List ℕ
   pub split : bs ≡ ws ++ (ds ++ rest)
-  pub white : All White ws
+  pub white : AllByRecursion White ws
   pub digits : Numeral ds
   pub value : decimal ds ≡ v
   pub ends : Ends rest
@@ -70,25 +70,25 @@ pub record Signed (bs : List ℕ) (z : ℤ) (rest : List ℕ) : Type 0 where
   pub negative : Bool
   pub ds : List ℕ
   pub split : bs ≡ ws ++ (minus negative ++ (ds ++ rest))
-  pub white : All White ws
+  pub white : AllByRecursion White ws
   pub digits : Numeral ds
   pub value : cond negative (neg_ℤ (pos (decimal ds))) (pos (decimal ds)) ≡ z
   pub ends : Ends rest
 
 pub data Reads (s : Bool) (len at : ℕ) (bs : List ℕ) (o : Out Number) : Type 0 where
-  numeral : (ws : List ℕ) (m : Bool) (ds rest : List ℕ) → bs ≡ ws ++ (minus m ++ (ds ++ rest)) → All White ws → May s m → Numeral ds → Ends rest
+  numeral : (ws : List ℕ) (m : Bool) (ds rest : List ℕ) → bs ≡ ws ++ (minus m ++ (ds ++ rest)) → AllByRecursion White ws → May s m → Numeral ds → Ends rest
       → o ≡ record { result = Ok (record { magnitude = decimal ds; negative = m; start = at + length ws }); at = at + length ws + length (minus m) + length ds }
       → Reads s len at bs o
-  nothing : (ws : List ℕ) (m : Bool) → bs ≡ ws ++ minus m → All White ws → May s m
+  nothing : (ws : List ℕ) (m : Bool) → bs ≡ ws ++ minus m → AllByRecursion White ws → May s m
       → o ≡ record { result = Err (fault Early len); at = at + length ws + length (minus m) }
       → Reads s len at bs o
-  stray : (ws : List ℕ) (m : Bool) (rest : List ℕ) → bs ≡ ws ++ (minus m ++ rest) → All White ws → May s m → Unfit s m rest
+  stray : (ws : List ℕ) (m : Bool) (rest : List ℕ) → bs ≡ ws ++ (minus m ++ rest) → AllByRecursion White ws → May s m → Unfit s m rest
       → o ≡ record { result = Err (fault Stray (at + length ws + length (minus m))); at = at + length ws + length (minus m) }
       → Reads s len at bs o
-  glued : (ws : List ℕ) (m : Bool) (ds rest : List ℕ) → bs ≡ ws ++ (minus m ++ (ds ++ rest)) → All White ws → May s m → Numeral ds → Stops rest
+  glued : (ws : List ℕ) (m : Bool) (ds rest : List ℕ) → bs ≡ ws ++ (minus m ++ (ds ++ rest)) → AllByRecursion White ws → May s m → Numeral ds → Stops rest
       → o ≡ record { result = Err (fault Stray (at + length ws + length (minus m) + length ds)); at = at + length ws + length (minus m) + length ds }
       → Reads s len at bs o
-  long : (ws : List ℕ) (m : Bool) (ds : List ℕ) (d : ℕ) (rest : List ℕ) → bs ≡ ws ++ (minus m ++ (ds ++ (d ∷ rest))) → All White ws → May s m → All Decimal ds → length ds ≡ 6 → Decimal d
+  long : (ws : List ℕ) (m : Bool) (ds : List ℕ) (d : ℕ) (rest : List ℕ) → bs ≡ ws ++ (minus m ++ (ds ++ (d ∷ rest))) → AllByRecursion White ws → May s m → AllByRecursion Decimal ds → length ds ≡ 6 → Decimal d
       → o ≡ record { result = Err (fault Long (at + length ws)); at = at + length ws + length (minus m) + length ds }
       → Reads s len at bs o
 

@@ -1,6 +1,6 @@
 -- The step that computes is the step of a walk.
 use Rattle.std.proofs.Common.{◌≡◌, ℕ, zero, suc, ◌<◌, ◌≤◌, Bool, true, false, cond, eqb, ◌⊎◌, List, [], ◌∷◌, Some, None, Option, unwrap_or, sym, refl, ap, ◌∙◌, subst, inl, inr, ⊎_elim, arith}
-use Rattle.std.specs.List.{slice_get, AllByRecursion as All}
+use Rattle.std.specs.List.{slice_get, AllByRecursion}
 use Rattle.std.proofs.lemmas.Bool.{cases_Bool, eqb-true, eqb-false, eq-eqb, ne_eqb, cond-true, cond-false}
 use Rattle.plane.specs.declared.quad.Quad.{Quad}
 use Rattle.maps.specs.declared.doorway.Doorway.{Doorway}
@@ -9,7 +9,7 @@ use Rattle.visibility.specs.Worlds.{World, Inside}
 use Rattle.visibility.specs.Walks.{Leaves, Follows, forward, backward}
 use Rattle.visibility.specs.Steps.{leave, fresh, through, onward}
 
-pub all_nth : {X : Type 0} (P : X → Type 0) (xs : List X) (k : ℕ) (x : X) → All P xs → slice_get xs k ≡ Some x → P x
+pub all_nth : {X : Type 0} (P : X → Type 0) (xs : List X) (k : ℕ) (x : X) → AllByRecursion P xs → slice_get xs k ≡ Some x → P x
 all_nth P [] k x h e = let z : ◌≡◌ {A = ℕ} 0 1 = cc in absurd (omega arith)
 all_nth P (y ∷ ys) zero x h e = let z : y ≡ x = cc in subst P z h.0
 all_nth P (y ∷ ys) (suc k) x h e = all_nth P ys k x h.1 e

@@ -4,7 +4,7 @@
 --   Inside w    each doorway joins two rooms of the world
 --   Lawful w    when a path is let through, so is the path without its last crossing
 use Rattle.std.specs.Prelude.{◌≡◌, ℕ, ◌<◌, Bool, true, List, [], ◌∷◌, ◌++◌}
-use Rattle.std.specs.List.{AllByRecursion as All}
+use Rattle.std.specs.List.{AllByRecursion}
 use Rattle.plane.specs.declared.quad.Quad.{Quad}
 use Rattle.maps.specs.declared.doorway.Doorway.{Doorway}
 
@@ -17,7 +17,7 @@ abbrev pub world : ℕ → List Doorway → (List Quad → Bool) → World
 world n d l = record { rooms = n; doorways = d; lets = l }
 
 abbrev pub Inside : World → Type 0
-Inside w = All (λ d. (d.near < w.rooms) × (d.far < w.rooms)) w.doorways
+Inside w = AllByRecursion (λ d. (d.near < w.rooms) × (d.far < w.rooms)) w.doorways
 
 abbrev pub Lawful : World → Type 0
 Lawful w = (p : List Quad) (q : Quad) → w.lets (p ++ q ∷ []) ≡ true → w.lets p ≡ true

@@ -1,6 +1,6 @@
 -- The cases of the corridor.
 use Rattle.std.proofs.Common.{◌≡◌, ℕ, ◌/◌, ◌<◌, true, ◌⊎◌, List, [], ◌∷◌, pos, negsuc, Some, sym, refl, subst, inl, inr, ⊎_elim, arith}
-use Rattle.std.specs.List.{AllByRecursion as All}
+use Rattle.std.specs.List.{AllByRecursion}
 use Rattle.std.proofs.lemmas.Bool.{eqb-true, eq-eqb}
 use Rattle.maps.specs.declared.doorway.Doorway.{Doorway}
 use Rattle.maps.specs.declared.passage.Passage.{Passage}
@@ -44,7 +44,7 @@ there =
 abbrev filled : List Call
 filled = Fill 5 ∷ Fill 0 ∷ []
 
-module _ (gs : All Fair corridor_doorways) where
+module _ (gs : AllByRecursion Fair corridor_doorways) where
   abbrev w : World
   w = under_exact 10 (doorways corridor_doorways gs)
 

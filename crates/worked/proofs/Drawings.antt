@@ -1,6 +1,6 @@
 -- What a reader accepts is drawn: the space then holds a plan.
 use Rattle.std.proofs.Common.{◌≡◌, ℕ, zero, suc, ◌-◌, ◌<◌, List, [], ◌∷◌, ◌++◌, length, get_or, Ok, sym, refl, subst, zero-add, arith, length-append}
-use Rattle.std.specs.List.{AllByRecursion as All}
+use Rattle.std.specs.List.{AllByRecursion}
 use Rattle.std.proofs.lemmas.List.{get_or_append_left}
 use Rattle.grid.specs.declared.sizes.Size.{Size}
 use Rattle.grid.specs.Doorways.{Drawn, column, row}
@@ -11,7 +11,7 @@ use Rattle.grid.proofs.Meanings.{understands}
 use Rattle.grid.proofs.Paintings.{Right}
 use Rattle.grid.proofs.Places.{legal_rights, rights_at}
 
-bit_at : (ps : List ℕ) (k : ℕ) → All (λ p. p < 2) ps → k < length ps → get_or ps k 0 < 2
+bit_at : (ps : List ℕ) (k : ℕ) → AllByRecursion (λ p. p < 2) ps → k < length ps → get_or ps k 0 < 2
 bit_at [] k h l = absurd (omega arith)
 bit_at (p ∷ ps) zero h l = h.0
 bit_at (p ∷ ps) (suc k) h l = bit_at ps k h.1 (omega arith)

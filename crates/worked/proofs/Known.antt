@@ -3,7 +3,7 @@
 --   doorway p g   the doorway with the numbers p
 --   doorways ps gs   a list of them
 use Rattle.std.proofs.Common.{◌≡◌, ℕ, ◌≤◌, List, [], ◌∷◌, map, ℤ, nat_abs, refl, ap, subst, ap₂}
-use Rattle.std.specs.List.{AllByRecursion as All}
+use Rattle.std.specs.List.{AllByRecursion}
 use Rattle.maps.specs.declared.doorway.Doorway.{Doorway}
 use Rattle.maps.specs.declared.passage.Passage.{Passage}
 use Rattle.maps.specs.Passages.{plain, Joins}
@@ -29,7 +29,7 @@ doorway p g =
       apart = g.rooms;
     }
 
-abbrev pub doorways : (ps : List Passage) → All Fair ps → List Doorway
+abbrev pub doorways : (ps : List Passage) → AllByRecursion Fair ps → List Doorway
 doorways [] gs = []
 doorways (p ∷ ps) gs = doorway p gs.0 ∷ doorways ps gs.1
 
@@ -44,12 +44,12 @@ fair d =
       rooms = d.apart;
     }
 
-all_fair : (ds : List Doorway) → All Fair (map plain ds)
+all_fair : (ds : List Doorway) → AllByRecursion Fair (map plain ds)
 all_fair [] = tt
 all_fair (d ∷ ds) = (fair d, all_fair ds)
 
 -- their numbers are ps
-pub plain_doorways : (ps : List Passage) (gs : All Fair ps) → map plain (doorways ps gs) ≡ ps
+pub plain_doorways : (ps : List Passage) (gs : AllByRecursion Fair ps) → map plain (doorways ps gs) ≡ ps
 plain_doorways [] gs = refl
 plain_doorways (p ∷ ps) gs = ap (λ (qs : List Passage). p ∷ qs) (plain_doorways ps gs.1)
 
@@ -72,7 +72,7 @@ rebuilt (d ∷ ds) = ap (λ (es : List Doorway). d ∷ es) (rebuilt ds)
 
 -- what holds of every list with the numbers ps holds of each list of doorways that has them
 pub known :
-    (C : List Doorway → Type 0) (ps : List Passage) → ((gs : All Fair ps) → C (doorways ps gs)) → (ds : List Doorway) → map plain ds ≡ ps
+    (C : List Doorway → Type 0) (ps : List Passage) → ((gs : AllByRecursion Fair ps) → C (doorways ps gs)) → (ds : List Doorway) → map plain ds ≡ ps
     → C ds
 known C ps h ds e =
-    subst (λ (qs : List Passage). ((gs : All Fair qs) → C (doorways qs gs)) → C ds) e (λ f. subst C (rebuilt ds) (f (all_fair ds))) h
+    subst (λ (qs : List Passage). ((gs : AllByRecursion Fair qs) → C (doorways qs gs)) → C ds) e (λ f. subst C (rebuilt ds) (f (all_fair ds))) h

@@ -1,6 +1,6 @@
 -- The cases of the ring.
 use Rattle.std.proofs.Common.{◌≡◌, ℕ, ◌/◌, ◌<◌, true, List, [], ◌∷◌, pos, negsuc, refl, arith}
-use Rattle.std.specs.List.{AllByRecursion as All}
+use Rattle.std.specs.List.{AllByRecursion}
 use Rattle.maps.specs.declared.passage.Passage.{Passage}
 use Rattle.maps.specs.Gathered.{within_all}
 use Rattle.grid.specs.Doorways.{eastward, northward}
@@ -22,7 +22,7 @@ ring_doorways = eastward 2 0 0 ∷ northward 2 0 0 ∷ northward 2 1 0 ∷ eastw
 one_byte : (x : ℕ) → x < 4 → x / 8 < 1
 one_byte x l = omega arith
 
-module _ (gs : All Fair ring_doorways) where
+module _ (gs : AllByRecursion Fair ring_doorways) where
   abbrev w : World
   w = under_exact 4 (doorways ring_doorways gs)
 

@@ -1,7 +1,7 @@
 -- Whatever map is made of the two texts has the cases.
 use Rattle.std.proofs.Common.{◌≡◌, ℕ, ◌-◌, ◌*◌, ◌≤◌, List, ◌++◌, map, length, Ok, sym, refl, ap, ◌∙◌, subst, inl, ⊎_elim, arith}
 use lib.ListN.{length-replicate}
-use Rattle.std.specs.List.{AllByRecursion as All}
+use Rattle.std.specs.List.{AllByRecursion}
 use Rattle.std.proofs.ByRecursion.{All-weaker}
 use Rattle.maps.specs.declared.doorway.Doorway.{Doorway}
 use Rattle.maps.specs.declared.passage.Passage.{Passage}
@@ -39,8 +39,8 @@ some_map t w h accepted =
     let long : 1539 ≤ length sp = omega (arith, length-replicate {A = ℕ} 1539 0) in
     let (read, drawn) = accepted sp long in
     let ps : List Passage = grid_doorways (by w h) (answered t sp).space in
-    let joins : All (Joins (w * h)) ps = openings_join (by w h) drawn.0 (answered t sp).space (area (by w h)) (omega arith) in
-    let gs : All Fair ps = All-weaker (Joins (w * h)) Fair (joins_fair (w * h)) ps joins in
+    let joins : AllByRecursion (Joins (w * h)) ps = openings_join (by w h) drawn.0 (answered t sp).space (area (by w h)) (omega arith) in
+    let gs : AllByRecursion Fair ps = All-weaker (Joins (w * h)) Fair (joins_fair (w * h)) ps joins in
     (doorways ps gs, (by w h, sp, long, read, inl (drawn, refl, plain_doorways ps gs)))
 
 ring_drawn : (zs : List ℕ) → grid_doorways (by 2 2) (ring_pixels ++ zs) ≡ ring_doorways

@@ -1,5 +1,5 @@
 use Rattle.std.proofs.Common.{◌≡◌, true, map, length, take, sym, refl, ap, ◌∙◌, subst, arith}
-use Rattle.std.specs.List.{AllByRecursion as All}
+use Rattle.std.specs.List.{AllByRecursion}
 use Rattle.std.proofs.ByRecursion.{All-get_or}
 use Rattle.std.proofs.lemmas.List.{take_all}
 use Rattle.std.proofs.lemmas.Bool.{false≢true}
@@ -28,6 +28,6 @@ returns c =
     let e : c.loop-k.k ≡ length c.args.from.now = omega arith in
     let whole : take c.loop-k.k c.args.from.now ≡ c.args.from.now = take_all c.loop-k.k c.args.from.now (omega arith) in
     record {
-      test = (λ _. subst (All (Joins n)) whole i.0, λ _. refl);
+      test = (λ _. subst (AllByRecursion (Joins n)) whole i.0, λ _. refl);
       after = λ _. (subst (λ j. map plain (take j c.loop-k.into) ≡ c.args.from.now) e (i.1 ∙ whole), subst (λ j. within n (take j c.loop-k.into) ≡ true) e i.2);
     }

@@ -1,5 +1,5 @@
 use Rattle.std.proofs.Common.{◌≡◌, false, not, take, sym, ap, ◌∙◌, subst, take_all}
-use Rattle.std.specs.List.{AllByRecursion as All}
+use Rattle.std.specs.List.{AllByRecursion}
 use Rattle.std.proofs.ByRecursion.{All-more}
 use Rattle.plane.specs.Shapes.{coefficients}
 use Rattle.plane.proofs.First.{first_found, first_none}
@@ -16,4 +16,4 @@ loop-k-preserved g c =
 
 pub returns : goal.returns
 returns g c =
-    sym (first_none _ _ (subst (λ xs. All (λ e. not (g.E.Sided.well e (coefficients c.args.line.now)) ≡ false) xs) (take_all _ _ c.loop-k-test.false) c.loop-k.invariant))
+    sym (first_none _ _ (subst (λ xs. AllByRecursion (λ e. not (g.E.Sided.well e (coefficients c.args.line.now)) ≡ false) xs) (take_all _ _ c.loop-k-test.false) c.loop-k.invariant))

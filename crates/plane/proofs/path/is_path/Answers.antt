@@ -1,5 +1,5 @@
 use Rattle.std.proofs.Common.{true, false, Decides, refl, subst, arith, take_all}
-use Rattle.std.specs.List.{AllByRecursion as All}
+use Rattle.std.specs.List.{AllByRecursion}
 use Rattle.std.proofs.ByRecursion.{All-get_or, All-more}
 use Rattle.std.proofs.lemmas.Bool.{false≢true}
 use Rattle.std.proofs.lemmas.Bool.Decides.{same_from_decides}
@@ -24,6 +24,6 @@ loop-quad-preserved c =
 pub returns : goal.returns
 returns c =
     let list = c.args.list.now in
-    let all : All Crosses list = subst (All Crosses) (take_all _ list c.loop-quad-test.false) c.loop-quad.invariant in
+    let all : AllByRecursion Crosses list = subst (AllByRecursion Crosses) (take_all _ list c.loop-quad-test.false) c.loop-quad.invariant in
     let test : Decides true (Path list) = (λ _. (omega arith, all), λ _. refl) in
     record { value = same_from_decides true (is_path list) test (is_path_decides list); test = test }

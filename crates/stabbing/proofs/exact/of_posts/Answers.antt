@@ -1,5 +1,5 @@
 use Rattle.std.proofs.Common.{subst, arith, take_all}
-use Rattle.std.specs.List.{AllByRecursion as All}
+use Rattle.std.specs.List.{AllByRecursion}
 use Rattle.std.proofs.ByRecursion.{has_get_or}
 use Rattle.std.proofs.lemmas.Bool.{ltb-true}
 use Rattle.plane.specs.Lines.{posts}
@@ -28,7 +28,7 @@ pub returns-then-refuted-path : goal.returns-then-refuted-path
 returns-then-refuted-path c =
     let path = c.args.path.now in
     let every = take_all c.refuted_front-refuted.result path (omega arith) in
-    all_refuted_none path c.requires (subst (All (λ q. Refuted (left q) path)) every c.refuted_front-refuted.ensures.all)
+    all_refuted_none path c.requires (subst (AllByRecursion (λ q. Refuted (left q) path)) every c.refuted_front-refuted.ensures.all)
 
 pub returns-in-Some : goal.returns-in-Some
 unfolding first_line

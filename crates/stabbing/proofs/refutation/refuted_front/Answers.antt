@@ -1,5 +1,5 @@
 use Rattle.std.proofs.Common.{length, sym, refl, ◌∙◌, subst, le_refl, take_all}
-use Rattle.std.specs.List.{AllByRecursion as All}
+use Rattle.std.specs.List.{AllByRecursion}
 use Rattle.std.proofs.ByRecursion.{All-get_or, All-more, has_get_or}
 use Rattle.plane.specs.Limits.{Crosses}
 use Rattle.plane.specs.Separation.{Point, left}
@@ -22,4 +22,4 @@ pub returns : goal.returns
 returns c =
     let path = c.args.path.now in
     let whole = take_all _ path c.loop-k-test.false ∙ sym (take_all (length path) path (le_refl (length path))) in
-    record { bound = le_refl (length path); all = subst (All (λ q. Refuted (left q) path)) whole c.loop-k.invariant }
+    record { bound = le_refl (length path); all = subst (AllByRecursion (λ q. Refuted (left q) path)) whole c.loop-k.invariant }
