@@ -42,8 +42,9 @@ const fn bad(text: &'static str, signed: bool, number: u8, place: usize) -> Case
 }
 
 fn answers(rt: &impl Abort, case: Case) {
-    let mut lexer = Lexer::new(case.text.as_bytes(), 0);
-    assert_eq!(rt; lexer.number(case.signed), case.answer, "{}", case.text);
+    let text = case.text;
+    let said = Lexer::new(text.as_bytes(), 0).number(case.signed);
+    assert_eq!(rt; said, case.answer, "{text}");
 }
 
 #[test]

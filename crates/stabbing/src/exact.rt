@@ -46,7 +46,7 @@ fn to_crossing(p: Post, far: &Quad, path: &[Quad]) -> Option<Line>
 }
 
 // The first line from p to a post of the crossings that separates the path.
-fn from_post(p: Post, crossings: &[Quad], path: &[Quad]) -> Option<Line>
+fn first_in_fan(p: Post, crossings: &[Quad], path: &[Quad]) -> Option<Line>
     requires { AllByRecursion Crosses crossings.now }
     ensures { option_map coefficients result ≡ first (λ l. separates l path.now) (fan (place p) (posts crossings.now)) }
 {
@@ -58,7 +58,27 @@ fn from_post(p: Post, crossings: &[Quad], path: &[Quad]) -> Option<Line>
     None
 }
 
-// The first line from a post of the crossing to a post of the path that separates the path, where the left post is refuted.
+// The first line from p to a post of the path that separates the path.
+fn from_post(p: Post, path: &[Quad]) -> Option<Line>
+    requires { AllByRecursion Crosses path.now }
+    ensures { option_map coefficients result ≡ first (λ l. separates l path.now) (fan (place p) (posts path.now)) }
+{
+    first_in_fan(p, path, path)
+}
+
+// The first line from a post of the crossing to a post of the path that separates the path.
+fn from_crossing(near: &Quad, path: &[Quad]) -> Option<Line>
+    requires { (Crosses near.now) × (AllByRecursion Crosses path.now) }
+    ensures { option_map coefficients result ≡ first (λ l. separates l path.now) (tries (posts (near.now ∷ [])) (posts path.now)) }
+{
+    let from = ends(near);
+    match from_post(from.left, path) {
+        Some(line) => Some(line),
+        None => from_post(from.right, path),
+    }
+}
+
+// The same, where the left post is refuted.
 fn from_right(near: &Quad, path: &[Quad]) -> Option<Line>
     requires { (AllByRecursion Crosses path.now) × ((Has path.now near.now) × (Refuted (left near.now) path.now)) }
     ensures { option_map coefficients result ≡ first (λ l. separates l path.now) (tries (posts (near.now ∷ [])) (posts path.now)) }
@@ -67,21 +87,18 @@ fn from_right(near: &Quad, path: &[Quad]) -> Option<Line>
     if refuted(from.right, near, path) {
         return None;
     }
-    from_post(from.right, path, path)
+    from_post(from.right, path)
 }
 
 // The same, where the left post may be refuted.
-fn from_crossing(near: &Quad, left_refuted: bool, path: &[Quad]) -> Option<Line>
+fn from_remaining(near: &Quad, left_refuted: bool, path: &[Quad]) -> Option<Line>
     requires { (AllByRecursion Crosses path.now) × ((Has path.now near.now) × ((left_refuted ≡ true → Refuted (left near.now) path.now))) }
     ensures { option_map coefficients result ≡ first (λ l. separates l path.now) (tries (posts (near.now ∷ [])) (posts path.now)) }
 {
     if left_refuted {
-        return from_right(near, path);
-    }
-    let from = ends(near);
-    match from_post(from.left, path, path) {
-        Some(line) => Some(line),
-        None => from_post(from.right, path, path),
+        from_right(near, path)
+    } else {
+        from_crossing(near, path)
     }
 }
 
@@ -96,7 +113,7 @@ fn from_start(path: &[Quad]) -> Option<Line>
         return None;
     }
     let from = ends(&path[0]);
-    from_post(from.left, &path[0..count], path)
+    first_in_fan(from.left, &path[0..count], path)
 }
 
 // The first line through two posts of the path that separates it. Where each left post is refuted, there is none.
@@ -109,7 +126,7 @@ fn of_posts(path: &[Quad]) -> Option<Line>
         return None;
     }
     for (k, near) in path.iter().enumerate() {
-        if let Some(line) = from_crossing(near, k < refuted, path) {
+        if let Some(line) = from_remaining(near, k < refuted, path) {
             return Some(line);
         }
     }

@@ -1,15 +1,7 @@
-use Rattle.std.proofs.ByRecursion.{all-has}
-use Rattle.plane.specs.Limits.{Crosses}
 use Rattle.plane.specs.Lines.{posts}
 use Rattle.plane.specs.Tests.{separates}
 use Rattle.stabbing.specs.Tries.{at_left, at_right, tries_by_post}
 use Rattle.stabbing.proofs.exact.from_crossing.Goals as goal
-
-pub ends-from-requires : goal.ends-from-requires
-ends-from-requires c = all-has Crosses c.args.path.now c.args.near.now c.requires.0 c.requires.1.0
-
-pub from_right-requires : goal.from_right-requires
-from_right-requires c = (c.requires.0, (c.requires.1.0, c.requires.1.1 c.if-left_refuted.true))
 
 pub returns-in-Some : goal.returns-in-Some
 returns-in-Some c =

@@ -12,8 +12,8 @@ use Rattle.stabbing.specs.Scan.{scan_found, scan_more, scan_none}
 use Rattle.stabbing.specs.Tries.{tries_by_post, post_scans}
 use Rattle.stabbing.proofs.exact.of_posts.Goals as goal
 
-pub from_crossing-requires : goal.from_crossing-requires
-from_crossing-requires c =
+pub from_remaining-requires : goal.from_remaining-requires
+from_remaining-requires c =
     let path = c.args.path.now in
     let k = c.loop-k.k in
     let r = c.refuted_front-refuted.ensures in (

@@ -5,7 +5,7 @@ use Rattle.plane.specs.Shapes.{place}
 use Rattle.plane.specs.Tests.{separates}
 use Rattle.stabbing.specs.Scan.{scan_found, scan_more, scan_none}
 use Rattle.stabbing.specs.Tries.{fan_by_post, post_scans}
-use Rattle.stabbing.proofs.exact.from_post.Goals as goal
+use Rattle.stabbing.proofs.exact.first_in_fan.Goals as goal
 
 pub to_crossing-requires : goal.to_crossing-requires
 to_crossing-requires c = All-get_or Crosses c.args.crossings.now c.loop-far.far-index _ c.loop-far-test.true c.requires

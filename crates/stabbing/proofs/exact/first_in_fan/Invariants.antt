@@ -4,7 +4,7 @@ use Rattle.plane.specs.Lines.{posts}
 use Rattle.plane.specs.Shapes.{place}
 use Rattle.plane.specs.Tests.{separates}
 use Rattle.stabbing.specs.Exact.{fan}
-use Rattle.stabbing.proofs.exact.from_post.Given as goal
+use Rattle.stabbing.proofs.exact.first_in_fan.Given as goal
 
 abbrev pub invariant-loop-far : goal.invariant-loop-far
 invariant-loop-far l =
