@@ -1,17 +1,16 @@
 -- The doorway of each opening joins two rooms of the plan, by a crossing.
-use Rattle.std.proofs.Common.{◌≡◌, ℕ, zero, suc, ◌+◌, ◌-◌, ◌*◌, ◌/◌, ◌%◌, ◌<◌, ◌≤◌, Bool, true, false, cond, ◌&&◌, List, [], ◌∷◌, ◌++◌, pos, refl, ap, ◌∙◌, mul_comm, add-mul, one-mul, arith}
+use Rattle.std.proofs.Common.{◌≡◌, ℕ, zero, suc, ◌+◌, ◌-◌, ◌*◌, ◌/◌, ◌<◌, ◌≤◌, true, false, cond, List, [], ◌∷◌, pos, refl, ap, ◌∙◌, add-mul, one-mul, arith}
 use Rattle.std.specs.List.{AllByRecursion}
 use Rattle.std.proofs.lemmas.Nat.{mul-add-lt}
 use Rattle.std.proofs.ByRecursion.{All-append}
 use Rattle.std.proofs.lemmas.Int.{ints}
 use Rattle.std.proofs.lemmas.Bool.{and_parts, eqb-true, eqb-false}
 use Rattle.plane.specs.Separation.{Point}
-use Rattle.maps.specs.declared.passage.Passage.{Passage}
 use Rattle.maps.specs.Passages.{Joins}
 use Rattle.grid.specs.declared.sizes.Size.{Size}
 use Rattle.grid.specs.Doorways.{column, eastward, free, northward, opening, openings, passage_at, row}
 use Rattle.grid.specs.Pixels.{odd, rule_of}
-use Rattle.grid.specs.Sizes.{Roomy, across, area}
+use Rattle.grid.specs.Sizes.{Roomy, area}
 use Rattle.grid.proofs.Areas.{left_factor, right_factor}
 use Rattle.grid.proofs.Between.{rooms_above, rooms_beside, stands}
 

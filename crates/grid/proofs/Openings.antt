@@ -1,5 +1,5 @@
 -- One pixel more of a plan's openings.
-use Rattle.std.proofs.Common.{◌≡◌, ℕ, ◌+◌, ◌<◌, Bool, true, false, cond, List, [], ◌∷◌, ◌++◌, length, take, set, sym, refl, ap, ◌∙◌, append-nil, add-one}
+use Rattle.std.proofs.Common.{◌≡◌, ℕ, ◌+◌, ◌<◌, true, false, cond, List, [], ◌∷◌, ◌++◌, length, take, set, sym, refl, ap, ◌∙◌, append-nil, add-one}
 use Rattle.std.proofs.lemmas.List.{take_more_set}
 use Rattle.maps.specs.declared.passage.Passage.{Passage}
 use Rattle.grid.specs.declared.sizes.Size.{Size}

@@ -1,8 +1,8 @@
 -- How a loop over a list finds the first element that passes a test.
-use Rattle.std.proofs.Common.{◌≡◌, ℕ, zero, suc, ◌<◌, Bool, true, false, cond, List, [], ◌∷◌, length, get_or, take, Some, None, Option, sym, refl, ap, ◌∙◌, le_of_suc-le-suc, arith}
+use Rattle.std.proofs.Common.{◌≡◌, ℕ, zero, suc, ◌<◌, Bool, true, false, List, [], ◌∷◌, length, get_or, take, Some, None, sym, refl, ap, ◌∙◌, le_of_suc-le-suc, arith}
 use Rattle.std.specs.Option.{option_map}
 use Rattle.std.specs.List.{AllByRecursion}
-use Rattle.plane.specs.First.{first, first_place}
+use Rattle.plane.specs.First.{first_place}
 
 module _ {X : Type 0} (t : X → Bool) where
   -- all before k fail, and the one at k passes

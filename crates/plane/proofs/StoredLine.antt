@@ -1,5 +1,5 @@
 -- A line is the one that is stored for its numbers.
-use Rattle.std.proofs.Common.{◌≡◌, ◌+◌, ◌<◌, Bool, true, false, ◌&&◌, T, ltb, leb, nat_abs, Some, None, Ok, Err, Option, Result, sym, refl, ap, ◌∙◌, arith, le→leb, lt→ltb, MatchResult}
+use Rattle.std.proofs.Common.{◌≡◌, ◌+◌, ◌<◌, Bool, true, false, ◌&&◌, T, leb, nat_abs, Some, None, Ok, Err, Result, sym, refl, ap, ◌∙◌, arith, le→leb, lt→ltb, MatchResult}
 use native.Mathlib.Bridge.{le_prop}
 use Rattle.std.proofs.lemmas.Int.{ints}
 use Rattle.std.specs.Result.{result_ok}

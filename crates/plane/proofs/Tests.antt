@@ -1,5 +1,5 @@
 -- Each test of specs/Tests.antt decides its condition.
-use Rattle.std.proofs.Common.{◌≡◌, ℕ, suc, ◌≤◌, Bool, true, false, cond, not, ◌&&◌, eqb, leb, List, [], ◌∷◌, length, ℤ, pos, negsuc, nat_abs, ◌≤ℤ◌, is_some, Some, None, Decides, Option, sym, refl, ap, ap₂, arith}
+use Rattle.std.proofs.Common.{◌≡◌, ℕ, suc, ◌≤◌, Bool, true, false, cond, not, ◌&&◌, leb, List, [], ◌∷◌, length, ℤ, pos, negsuc, ◌≤ℤ◌, is_some, Some, None, Decides, Option, sym, refl, ap, ap₂, arith}
 use borrow.Author.Differences.{true_is_le, le_out}
 use lib.IntN.{pos-ne-negsuc}
 use lib.Signed.{le_z}

@@ -3,7 +3,7 @@
 --   through P Q    the line from P to Q; points to its left have values above 0
 --   TwoPosts      if any line at all separates a path that is not empty, then so does the line through some two
 --                  different posts of it
-use Rattle.std.specs.Prelude.{◌≡◌, List, [], ◌∷◌, ℤ, ◌-ℤ◌, ◌*ℤ◌, ◌≢◌}
+use Rattle.std.specs.Prelude.{List, [], ◌∷◌, ◌-ℤ◌, ◌*ℤ◌, ◌≢◌}
 use Rattle.std.specs.List.{ContainsAt as Has, AllByRecursion}
 use Rattle.plane.specs.declared.quad.Quad.{Quad}
 use Rattle.plane.specs.Separation.{Point, Coefficients, left, right, Apart, Separates, Stabbed}

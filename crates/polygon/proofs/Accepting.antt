@@ -1,12 +1,11 @@
 -- What an accepted text gives, from the executable definitions.
-use Rattle.std.proofs.Common.{◌≡◌, ℕ, zero, suc, ◌+◌, ◌≤◌, Bool, true, false, cond, ◌⊎◌, List, [], ◌∷◌, ◌++◌, length, take, drop, replicate, Ok, Err, Result, sym, refl, ap, ◌∙◌, subst, inl, inr, add-one, arith}
+use Rattle.std.proofs.Common.{◌≡◌, ℕ, zero, suc, ◌+◌, ◌≤◌, true, false, ◌⊎◌, List, [], ◌∷◌, length, take, drop, replicate, Ok, Err, Result, sym, refl, ap, ◌∙◌, inl, inr, add-one, arith}
 use Rattle.std.proofs.lemmas.List.{length-take, length-append, length-drop}
 use Rattle.std.proofs.lemmas.Bool.{cond-true, cond-false, cases_Bool}
 use Rattle.text.specs.declared.faults.Fault.{Fault}
 use Rattle.text.specs.declared.faults.Ground.TheVariants.{Shape}
 use Rattle.text.specs.Faults.{fault}
 use Rattle.plane.specs.Separation.{Point}
-use Rattle.polygon.specs.declared.counts.Counts.{Counts}
 use Rattle.polygon.specs.declared.edge.Edge.{Edge}
 use Rattle.polygon.specs.declared.layout.Plan.{Plan}
 use Rattle.maps.specs.declared.passage.Passage.{Passage}

@@ -1,5 +1,5 @@
 -- A space cleared place by place.
-use Rattle.std.proofs.Common.{◌≡◌, ℕ, zero, suc, ◌+◌, ◌<◌, ◌≤◌, List, [], ◌∷◌, ◌++◌, length, drop, set, replicate, sym, refl, ap, ◌∙◌, add-one, arith}
+use Rattle.std.proofs.Common.{◌≡◌, ℕ, zero, suc, ◌+◌, ◌<◌, List, ◌∷◌, ◌++◌, length, drop, set, replicate, sym, refl, ap, ◌∙◌, add-one, arith}
 use Rattle.std.proofs.lemmas.List.{drop_more, drop_all, append-nil}
 
 set_behind : {A : Type 0} (n : ℕ) (v y : A) (ys : List A) → set (replicate n v ++ (y ∷ ys)) n v ≡ v ∷ (replicate n v ++ ys)

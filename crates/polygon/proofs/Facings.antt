@@ -1,7 +1,6 @@
 -- One more face, by what its corner count and its corner numbers answer.
-use Rattle.std.proofs.Common.{◌≡◌, ℕ, zero, suc, ◌+◌, ◌-◌, ◌<◌, ◌≤◌, List, set, Ok, Err, Result, sym, refl, ap, ◌∙◌, subst, arith}
+use Rattle.std.proofs.Common.{◌≡◌, ℕ, suc, ◌+◌, ◌-◌, ◌<◌, ◌≤◌, List, set, Ok, Err, sym, refl, ap, ◌∙◌, arith}
 use Rattle.text.specs.declared.faults.Fault.{Fault}
-use Rattle.text.specs.Lexing.{Out}
 use Rattle.polygon.specs.Outs.{Filling, filled}
 use Rattle.polygon.specs.Faces.{number, size, Facing, sized, listed, faced}
 

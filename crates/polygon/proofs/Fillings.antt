@@ -1,5 +1,5 @@
 -- One more element read into a space, by what its reading answers.
-use Rattle.std.proofs.Common.{◌≡◌, ℕ, zero, suc, ◌+◌, ◌-◌, ◌<◌, ◌≤◌, List, [], ◌∷◌, map, set, Ok, Err, Result, sym, refl, ap, ◌∙◌, subst, arith}
+use Rattle.std.proofs.Common.{◌≡◌, ℕ, zero, suc, ◌+◌, ◌-◌, ◌<◌, ◌≤◌, List, [], ◌∷◌, map, set, Ok, Err, sym, refl, ap, ◌∙◌, arith}
 use Rattle.text.specs.declared.faults.Fault.{Fault}
 use Rattle.text.specs.Lexing.{Out}
 use Rattle.polygon.specs.Outs.{Filling, put, filled}

@@ -1,7 +1,7 @@
 -- Edges and doorways listed one by one.
-use Rattle.std.proofs.Common.{◌≡◌, ℕ, zero, suc, ◌+◌, ◌-◌, ◌<◌, ◌≤◌, Bool, true, false, cond, ltb, List, [], ◌∷◌, ◌++◌, length, get_or, take, drop, set, Some, None, Option, sym, refl, ap, ◌∙◌, subst, add-one, arith, length-append}
-use Rattle.std.proofs.lemmas.List.{append_assoc, append-nil, take_more_set, at_drop_more, at_drop_all, length-take-le, length-take, length-drop, drop_more}
-use Rattle.std.proofs.lemmas.Bool.{cond-true, cond-false, lt-ltb, le-ltb}
+use Rattle.std.proofs.Common.{◌≡◌, ℕ, suc, ◌+◌, ◌-◌, ◌<◌, ◌≤◌, ltb, List, [], ◌∷◌, ◌++◌, length, get_or, take, drop, set, Some, Option, sym, refl, ap, ◌∙◌, subst, add-one, arith, length-append}
+use Rattle.std.proofs.lemmas.List.{append_assoc, append-nil, take_more_set, at_drop_more, at_drop_all, length-take-le, length-drop, drop_more}
+use Rattle.std.proofs.lemmas.Bool.{cond-true, lt-ltb}
 use Rattle.plane.specs.Separation.{Point}
 use Rattle.polygon.specs.declared.edge.Edge.{Edge}
 use Rattle.maps.specs.declared.passage.Passage.{Passage}

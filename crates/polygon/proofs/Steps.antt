@@ -1,5 +1,5 @@
 -- One turn of each loop that reads, with the lexer's text and place as they stand before and after it.
-use Rattle.std.proofs.Common.{◌≡◌, ℕ, suc, ◌+◌, ◌-◌, ◌<◌, ◌≤◌, List, set, Ok, Err, Result, sym, refl, ap, ◌∙◌, arith}
+use Rattle.std.proofs.Common.{◌≡◌, ℕ, ◌+◌, ◌-◌, ◌<◌, List, set, Ok, Err, sym, refl, ap, ◌∙◌, arith}
 use Rattle.text.specs.declared.faults.Fault.{Fault}
 use Rattle.plane.specs.declared.corner.Corner.{Corner}
 use Rattle.plane.specs.Separation.{Point}

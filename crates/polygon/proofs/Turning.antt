@@ -1,7 +1,7 @@
 -- The ring of a face's corners, its edges one by one, and the faces one by one.
-use Rattle.std.proofs.Common.{◌≡◌, ℕ, zero, suc, ◌+◌, ◌-◌, ◌/◌, ◌<◌, ◌≤◌, Bool, true, false, cond, not, ◌&&◌, leb, ◌⊎◌, List, [], ◌∷◌, ◌++◌, map, length, get_or, take, drop, set, pos, is_some, Some, None, Ok, Err, Option, Result, sym, refl, ap, ◌∙◌, subst, inl, inr, zero-add, add-one, arith}
+use Rattle.std.proofs.Common.{◌≡◌, ℕ, zero, suc, ◌+◌, ◌-◌, ◌/◌, ◌<◌, ◌≤◌, Bool, true, false, cond, not, ◌&&◌, leb, ◌⊎◌, List, [], ◌∷◌, ◌++◌, map, length, get_or, take, drop, set, pos, is_some, Some, None, Err, Option, Result, sym, refl, ap, ◌∙◌, inl, inr, zero-add, add-one, arith}
 use Rattle.std.specs.Option.{option_map}
-use Rattle.std.proofs.lemmas.List.{length-map, append_assoc, take_more_set, map_more, get_or-map, get_or_past, take-map, drop-map, drop-drop, drop_all, take_all, at_drop_more, at_drop_all, length-drop}
+use Rattle.std.proofs.lemmas.List.{length-map, append_assoc, take_more_set, map_more, get_or-map, get_or_past, take-map, drop-map, drop-drop, drop_all, take_all, at_drop_more, length-drop}
 use Rattle.std.proofs.lemmas.Bool.{and_from, and_left, and_right, le-leb, cases_lt, cases_eq, cond-true, cond-false}
 use Rattle.text.specs.declared.faults.Fault.{Fault}
 use Rattle.text.specs.declared.faults.Ground.TheVariants.{Shape}

@@ -10,7 +10,7 @@ use Rattle.polygon.specs.declared.counts.Counts.{Counts}
 use Rattle.polygon.specs.declared.edge.Edge.{Edge}
 use Rattle.polygon.specs.declared.layout.Plan.{Plan}
 use Rattle.maps.specs.declared.passage.Passage.{Passage}
-use Rattle.polygon.specs.Layouts.{Layout, laid}
+use Rattle.polygon.specs.Layouts.{laid}
 use Rattle.polygon.specs.Counterclockwise.{Convex}
 use Rattle.polygon.specs.Edges.{all_edges}
 use Rattle.polygon.specs.Sharing.{Distinct, Doors}

@@ -4,7 +4,7 @@
 --   once es n k      of the n edges from edge k on, the first that an earlier edge of es repeats is a fault of its face
 --   Linked es k heads nexts
 --                    the first k edges of es are chained: heads has the latest edge for each rest, and nexts for each edge the one before it
-use Rattle.std.specs.Prelude.{◌≡◌, ℕ, zero, suc, ◌+◌, ◌%◌, ◌<◌, ◌≤◌, cond, ◌&&◌, List, length, Ok, Err, Result, ◌==◌, slice_index}
+use Rattle.std.specs.Prelude.{◌≡◌, ℕ, zero, suc, ◌+◌, ◌%◌, ◌<◌, cond, ◌&&◌, List, length, Ok, Err, Result, ◌==◌, slice_index}
 use Rattle.text.specs.declared.faults.Fault.{Fault}
 use Rattle.text.specs.declared.faults.Ground.TheVariants.{Edge as EdgeTwice}
 use Rattle.text.specs.Faults.{fault}

@@ -5,7 +5,7 @@
 --   bounded most n      the same, if it lies within ±most; else a fault at the number's start
 --   coordinate t most at  the next such number of the text t from the place at
 --   corner t at         the next corner: x and y within ±10,000, and then 0
-use Rattle.std.specs.Prelude.{ℕ, Bool, true, cond, List, map, ℤ, pos, neg_ℤ, Ok, Err, Result, nat_lt}
+use Rattle.std.specs.Prelude.{ℕ, true, cond, List, map, ℤ, pos, neg_ℤ, Ok, Err, Result, nat_lt}
 use Rattle.text.specs.declared.faults.Fault.{Fault}
 use Rattle.text.specs.declared.faults.Ground.TheVariants.{Coordinate}
 use Rattle.text.specs.declared.lexing.Number.{Number}

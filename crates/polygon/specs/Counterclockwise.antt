@@ -1,7 +1,7 @@
 -- When a face is convex and counterclockwise, in words.
 --   corner_of ps face k   the point of the corner at place k of a face
 --   Convex ps face        the face has 3 to 16 corners, and for each of its edges the corners at all other places lie strictly left of the edge
-use Rattle.std.specs.Prelude.{◌≡◌, ℕ, ◌<◌, ◌≤◌, List, length, pos, ◌<ℤ◌, ◌≢◌, slice_index}
+use Rattle.std.specs.Prelude.{ℕ, ◌<◌, ◌≤◌, List, length, pos, ◌<ℤ◌, ◌≢◌, slice_index}
 use Rattle.plane.specs.Lines.{through}
 use Rattle.plane.specs.Separation.{Point, value}
 use Rattle.polygon.specs.Convexity.{spot}

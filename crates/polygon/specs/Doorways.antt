@@ -5,7 +5,7 @@
 --   doorways ps es n the doorways that the edges below n give, in the order of the edges
 --   Holds space space0 count ds
 --                    the space has the doorways ds, count of them, in front, and behind them what space0 has there
-use Rattle.std.specs.Prelude.{◌≡◌, ℕ, zero, suc, ◌-◌, ◌≤◌, Bool, cond, ◌&&◌, List, [], ◌∷◌, ◌++◌, length, drop, Some, None, Option, nat_lt}
+use Rattle.std.specs.Prelude.{◌≡◌, ℕ, zero, suc, ◌-◌, ◌≤◌, cond, ◌&&◌, List, [], ◌∷◌, ◌++◌, length, drop, Some, None, Option, nat_lt}
 use Rattle.plane.specs.Separation.{Point}
 use Rattle.polygon.specs.declared.edge.Edge.{Edge}
 use Rattle.maps.specs.declared.passage.Passage.{Passage}

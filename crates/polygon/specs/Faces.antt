@@ -9,7 +9,7 @@ use Rattle.std.specs.Prelude.{ℕ, zero, suc, ◌+◌, List, Ok, Err, Result, sl
 use Rattle.text.specs.declared.faults.Fault.{Fault}
 use Rattle.text.specs.declared.faults.Ground.TheVariants.{Corner}
 use Rattle.text.specs.Lexing.{Out}
-use Rattle.polygon.specs.Outs.{Filling, filled}
+use Rattle.polygon.specs.Outs.{filled}
 use Rattle.polygon.specs.Wholes.{whole}
 
 abbrev pub number : List ℕ → ℕ → ℕ → Out ℕ

@@ -1,7 +1,7 @@
 -- The heading of a plan, `OFF`, behind which white space must stand.
 --   spaced bs   what stands behind the heading: the place behind it if that is white space
 --   headed t    the place behind the heading of the text t
-use Rattle.std.specs.Prelude.{ℕ, Bool, cond, ◌&&◌, List, length, drop, Ok, Err, Result, ◌==◌, nat_le, slice_index}
+use Rattle.std.specs.Prelude.{ℕ, cond, ◌&&◌, List, length, drop, Ok, Err, Result, ◌==◌, nat_le, slice_index}
 use Rattle.text.specs.declared.faults.Fault.{Fault}
 use Rattle.text.specs.declared.faults.Ground.TheVariants.{Early, Heading}
 use Rattle.text.specs.Bytes.{white}

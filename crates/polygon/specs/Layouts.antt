@@ -5,7 +5,7 @@
 --   Layout        an answer and three spaces: the corners' points, the faces' corner counts, their corner numbers
 --   laid t ps ss ns
 --                 the plan that the text t gives, written into the spaces
-use Rattle.std.specs.Prelude.{ℕ, Bool, false, cond, List, length, Some, None, Ok, Err, Option, Result, nat_lt}
+use Rattle.std.specs.Prelude.{ℕ, false, cond, List, length, Some, None, Ok, Err, Option, Result, nat_lt}
 use Rattle.text.specs.declared.faults.Fault.{Fault}
 use Rattle.text.specs.declared.faults.Ground.TheVariants.{Limits, Over}
 use Rattle.text.specs.declared.lexing.Number.{Number}

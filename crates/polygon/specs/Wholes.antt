@@ -1,7 +1,7 @@
 -- Numbers without a sign, within limits.
 --   limited g least below n   the value of the number n, from least on and below `below`; else a fault of the ground g at its start
 --   whole t g least below at  the next such number of the text t from the place at
-use Rattle.std.specs.Prelude.{ℕ, Bool, false, cond, ◌||◌, List, Ok, Err, Result, nat_le, nat_lt}
+use Rattle.std.specs.Prelude.{ℕ, false, cond, ◌||◌, List, Ok, Err, Result, nat_le, nat_lt}
 use Rattle.text.specs.declared.faults.Fault.{Fault}
 use Rattle.text.specs.declared.faults.Ground.{Ground}
 use Rattle.text.specs.declared.lexing.Number.{Number}

@@ -1,5 +1,5 @@
 -- What holds of a path holds of the path without its last crossing.
-use Rattle.std.proofs.Common.{List, [], ◌∷◌, ◌++◌, length, arith, length-append}
+use Rattle.std.proofs.Common.{List, [], ◌∷◌, ◌++◌, arith, length-append}
 use Rattle.std.specs.List.{AllByRecursion}
 use Rattle.plane.specs.declared.quad.Quad.{Quad}
 use Rattle.plane.specs.Limits.{Crosses, Path}

@@ -1,5 +1,5 @@
 -- A line through two posts of a path is a line within the limits.
-use Rattle.std.proofs.Common.{◌≡◌, ◌≤◌, Bool, true, false, cond, List, [], ◌∷◌, ℤ, pos, ◌-ℤ◌, ◌*ℤ◌, nat_abs, refl, ap₂, arith}
+use Rattle.std.proofs.Common.{◌≡◌, ◌≤◌, true, false, cond, List, [], ◌∷◌, ℤ, ◌-ℤ◌, ◌*ℤ◌, nat_abs, refl, ap₂, arith}
 use Rattle.std.proofs.ByRecursion.{All-append}
 use Rattle.std.proofs.lemmas.Int.{ints}
 use Rattle.std.proofs.lemmas.Bool.Decides.{not_from_Decides}
@@ -7,7 +7,7 @@ use Rattle.std.specs.List.{AllByRecursion}
 use Rattle.plane.specs.declared.quad.Quad.{Quad}
 use Rattle.plane.specs.Limits.{Crosses, InLimits, PostAt}
 use Rattle.plane.specs.Lines.{posts, through}
-use Rattle.plane.specs.Separation.{Coefficients, Point, Proper}
+use Rattle.plane.specs.Separation.{Point, Proper}
 use Rattle.plane.specs.Tests.{same_point}
 use Rattle.plane.proofs.Products.{product_within}
 use Rattle.plane.proofs.Tests.{same_point_decides}

@@ -1,5 +1,5 @@
 -- What the held line gives.
-use Rattle.std.proofs.Common.{◌≡◌, Bool, true, false, ◌&&◌, List, is_some, Some, None, Option, sym, refl, ap, ◌∙◌, subst, ⊎_elim}
+use Rattle.std.proofs.Common.{◌≡◌, Bool, true, ◌&&◌, List, is_some, Some, None, Option, sym, refl, subst, ⊎_elim}
 use Rattle.std.specs.Option.{option_or}
 use Rattle.std.proofs.lemmas.Bool.{and_parts}
 use Rattle.plane.specs.declared.line.Line.{Line}

@@ -1,4 +1,4 @@
-use Rattle.std.proofs.Common.{◌≡◌, ◌/◌, true, length, sym, ap, ◌∙◌, arith}
+use Rattle.std.proofs.Common.{◌≡◌, ◌/◌, length, sym, ap, ◌∙◌, arith}
 use Rattle.polygon.specs.Corners.{points}
 use Rattle.polygon.specs.Convexity.{clear, all_below}
 use Rattle.polygon.proofs.Turning.{below_none, below_more, below_not, all_of}

@@ -1,5 +1,5 @@
-use Rattle.std.proofs.Common.{◌≡◌, ◌+◌, ◌++◌, map, length, take, sym, refl, ap, ◌∙◌, add-zero, arith}
-use Rattle.std.proofs.lemmas.List.{take_all, append-nil}
+use Rattle.std.proofs.Common.{◌≡◌, ◌+◌, ◌++◌, map, length, take, sym, ap, ◌∙◌, arith}
+use Rattle.std.proofs.lemmas.List.{take_all}
 use Rattle.polygon.specs.Corners.{points}
 use Rattle.polygon.specs.Convexity.{spot}
 use Rattle.polygon.proofs.Turning.{lay_step}

@@ -1,4 +1,4 @@
-use Rattle.std.proofs.Common.{◌≡◌, sym, refl, subst, arith}
+use Rattle.std.proofs.Common.{sym, refl, subst, arith}
 use Rattle.polygon.specs.Corners.{points}
 use Rattle.polygon.specs.Doorways.{Holds}
 use Rattle.polygon.proofs.Listing.{doors_none, doors_more}

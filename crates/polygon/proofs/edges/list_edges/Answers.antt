@@ -1,4 +1,4 @@
-use Rattle.std.proofs.Common.{◌≡◌, get_or, sym, refl, ap, ◌∙◌, arith}
+use Rattle.std.proofs.Common.{get_or, refl, arith}
 use Rattle.polygon.proofs.Listing.{faces_step, faces_end, faces_count}
 use Rattle.polygon.proofs.edges.list_edges.Goals as goal
 

@@ -1,6 +1,5 @@
-use Rattle.std.proofs.Common.{◌≡◌, ◌+◌, ◌*◌, ◌≤◌, is_err, Ok, Err, sym, refl, ap, ◌∙◌, arith}
+use Rattle.std.proofs.Common.{◌*◌, ◌≤◌, is_err, Err, sym, ap, ◌∙◌, arith}
 use Rattle.std.proofs.lemmas.Result.{err_from_is_err_and, IfOk-from_err}
-use Rattle.polygon.specs.Faces.{number, size}
 use Rattle.polygon.proofs.Facings.{loop_unsized, loop_faces}
 use Rattle.polygon.proofs.Steps.{face_step, face_stop}
 use Rattle.polygon.proofs.faces.read_faces.Goals as goal

@@ -1,4 +1,4 @@
-use Rattle.std.proofs.Common.{◌≡◌, length, set, replicate, pos, sym, refl, ap, ◌∙◌, arith}
+use Rattle.std.proofs.Common.{length, set, pos, ap, ◌∙◌, arith}
 use Rattle.polygon.specs.Corners.{points}
 use Rattle.std.proofs.lemmas.List.{length-map}
 use Rattle.polygon.specs.Corners.{point}

@@ -1,4 +1,4 @@
-use Rattle.std.proofs.Common.{◌≡◌, length, set, replicate, sym, refl, ap, ◌∙◌, arith}
+use Rattle.std.proofs.Common.{length, set, refl, ap, ◌∙◌, arith}
 use Rattle.polygon.proofs.Clearing.{clear_more, clear_end}
 use Rattle.polygon.proofs.plans.clear_numbers.Goals as goal
 

@@ -1,4 +1,4 @@
-use Rattle.std.proofs.Common.{◌≡◌, ◌-◌, take, sym, subst, arith}
+use Rattle.std.proofs.Common.{◌-◌, take, sym, subst, arith}
 use Rattle.std.proofs.lemmas.List.{length-take}
 use Rattle.polygon.specs.Chains.{Linked}
 use Rattle.polygon.proofs.plans.open.Goals as goal

@@ -1,4 +1,3 @@
-use Rattle.std.proofs.Common.{get_or}
 use Rattle.std.proofs.ByRecursion.{All-get_or}
 use Rattle.plane.specs.Limits.{Crosses}
 use Rattle.plane.specs.Shapes.{place}

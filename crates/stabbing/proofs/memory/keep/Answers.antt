@@ -1,4 +1,4 @@
-use Rattle.std.proofs.Common.{◌≡◌, sym, ap, ◌∙◌, w32, SFits, rules}
+use Rattle.std.proofs.Common.{sym, ap, ◌∙◌, w32, SFits, rules}
 use Rattle.std.proofs.lemmas.Int.{to_z-of_z}
 use Rattle.plane.proofs.StoredLine.{made_stored}
 use Rattle.stabbing.specs.Memory.{kept}

@@ -1,4 +1,4 @@
-use Rattle.std.proofs.Common.{◌≡◌, ◌+◌, ◌&&◌, drop, sym, ap, ◌∙◌, arith}
+use Rattle.std.proofs.Common.{◌+◌, ◌&&◌, drop, sym, ap, ◌∙◌, arith}
 use Rattle.stabbing.specs.Wedge.{all_stabbed, neighbours}
 use Rattle.stabbing.specs.Threes.{three_more, three_none}
 use Rattle.stabbing.proofs.wedge.all_neighbours.Goals as goal

@@ -1,6 +1,5 @@
 -- What is held joins rooms of the map: all that was gathered does, and nothing is held else.
 use Rattle.std.proofs.Common.{rules, arith, ◌≡◌, ◌≤◌, ◌-◌, true, length, take, sym, ap, subst, refl, ◌∙◌}
-use Rattle.std.proofs.lemmas.List.{length-take-le}
 use Rattle.maps.specs.Passages.{within}
 use Rattle.maps.proofs.listed.Listed.new.Goals.{then-sized+then-gather, else-sized}
 use Rattle.maps.proofs.listed.Listed.new.Goals as goal

@@ -1,5 +1,4 @@
-use Rattle.std.proofs.Common.{◌≡◌, ◌-◌, ◌%◌, ◌≤◌, get_or, sym, refl, ap, ◌∙◌, arith}
-use Rattle.polygon.specs.Chains.{last, latest}
+use Rattle.std.proofs.Common.{◌-◌, ◌%◌, ◌≤◌, sym, arith}
 use Rattle.polygon.specs.Edges.{edge_at}
 use Rattle.polygon.proofs.Linking.{last_le, found, missed, passed, chained}
 use Rattle.polygon.proofs.chains.Chains.find.Goals as goal

@@ -1,4 +1,4 @@
-use Rattle.std.proofs.Common.{◌≡◌, ◌+◌, ◌<◌, length, Ok, Err, sym, refl, ap, ◌∙◌, subst, arith}
+use Rattle.std.proofs.Common.{◌≡◌, ◌+◌, ◌<◌, length, Err, ap, ◌∙◌, subst, arith}
 use Rattle.polygon.specs.Chains.{latest, Linked}
 use Rattle.polygon.specs.Edges.{edge_at}
 use Rattle.polygon.proofs.Linking.{once_more, twice, once_all}

@@ -1,4 +1,4 @@
-use Rattle.std.proofs.Common.{replicate, refl}
+use Rattle.std.proofs.Common.{refl}
 use Rattle.polygon.proofs.Linking.{linked_none, get_or_zeros}
 use Rattle.polygon.proofs.chains.Chains.new.Goals as goal
 

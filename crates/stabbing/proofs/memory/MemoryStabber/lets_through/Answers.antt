@@ -1,4 +1,4 @@
-use Rattle.std.proofs.Common.{is_some, sym, ap, ◌∙◌}
+use Rattle.std.proofs.Common.{is_some, ap, ◌∙◌}
 use Rattle.stabbing.specs.Recall.{recall_sharp}
 use Rattle.stabbing.proofs.memory.MemoryStabber.lets_through.Goals as goal
 
