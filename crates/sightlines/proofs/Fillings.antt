@@ -1,13 +1,12 @@
 -- A row that is told of the walks from a room shows what the questions about them show.
-use Rattle.std.proofs.Common.{◌≡◌, ℕ, ◌/◌, ◌<◌, ◌≤◌, Bool, true, false, cond, ◌⊎◌, List, [], ◌∷◌, length, sym, refl, ap, ◌∙◌, subst, inl, inr, ⊎_elim, arith}
+use Rattle.std.proofs.Common.{◌≡◌, ℕ, ◌/◌, ◌<◌, Bool, true, false, cond, List, [], ◌∷◌, length, sym, refl, ap, ◌∙◌, subst, inl, inr}
 use mathlib.Core.Path.{fun_ext}
 use Rattle.std.proofs.lemmas.List.{length-set}
-use Rattle.std.proofs.lemmas.Bool.{cases_Bool, cond-true, cond-false}
 use Rattle.plane.specs.declared.quad.Quad.{Quad}
 use Rattle.sightlines.specs.declared.row.Row.{Row}
 use Rattle.sightlines.specs.Bits.{shown, marked}
-use Rattle.sightlines.specs.Orders.{In, Due, InOrder}
-use Rattle.sightlines.specs.Questions.{due, toured, asked_all, shown_all}
+use Rattle.sightlines.specs.Orders.{In}
+use Rattle.sightlines.specs.Questions.{toured, asked_all, shown_all}
 use Rattle.sightlines.specs.Sets.{Numbers, with, only}
 use Rattle.sightlines.specs.Trips.{Trip}
 use Rattle.sightlines.specs.Walks.{Goes, Walk}

@@ -1,5 +1,5 @@
 -- On which grounds a witness call is refused.
-use Rattle.std.proofs.Common.{◌≡◌, ℕ, ◌+◌, ◌<◌, ◌≤◌, cond, eqb, ltb, ◌⊎◌, List, ◌++◌, length, take, drop, is_some, Some, None, Ok, Err, Option, Result, sym, refl, ap, ◌∙◌, subst, inl, inr, ⊎_elim, arith}
+use Rattle.std.proofs.Common.{◌≡◌, ℕ, ◌+◌, ◌<◌, ◌≤◌, cond, eqb, ltb, ◌⊎◌, List, length, is_some, Some, None, Ok, Err, Option, sym, refl, ap, ◌∙◌, subst, ⊎_elim}
 use Rattle.std.proofs.lemmas.Bool.{lt-ltb, le-ltb, eq-eqb, ne_eqb, cond-true, cond-false, cases_lt}
 use Rattle.plane.specs.declared.quad.Quad.{Quad}
 use Rattle.plane.specs.Limits.{InLimits}
@@ -10,7 +10,7 @@ use Rattle.sightlines.specs.declared.sightline.Sightline.{Sightline}
 use Rattle.sightlines.specs.Copying.{over}
 use Rattle.sightlines.specs.Sets.{Numbers}
 use Rattle.sightlines.specs.Walks.{TrueRow}
-use Rattle.sightlines.specs.Witnesses.{no_witness, Told, Granted, Witnessed}
+use Rattle.sightlines.specs.Witnesses.{no_witness, Told, Witnessed}
 use Rattle.sightlines.specs.Worlds.{World}
 use Rattle.sightlines.proofs.Copies.{over_all}
 

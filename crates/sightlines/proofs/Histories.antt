@@ -1,25 +1,22 @@
 -- Each call keeps the state as the history makes it, and answers what the history says.
-use Rattle.std.proofs.Common.{◌≡◌, ℕ, ◌<◌, ◌≤◌, Bool, true, false, cond, not, ◌&&◌, ◌||◌, eqb, ltb, ◌⊎◌, List, [], ◌∷◌, length, Some, None, Ok, Err, Option, Result, unwrap_or, sym, refl, ap, ◌∙◌, subst, inl, inr, ⊎_elim, arith, MatchResult}
+use Rattle.std.proofs.Common.{◌≡◌, ℕ, ◌<◌, ◌≤◌, Bool, true, false, cond, not, ◌&&◌, ◌||◌, eqb, ltb, List, ◌∷◌, length, Some, None, Ok, Err, Option, Result, unwrap_or, sym, refl, ap, ◌∙◌, subst, inl, inr, ⊎_elim, arith, MatchResult}
 use mathlib.Core.Bool.{beq}
-use Rattle.std.specs.List.{slice_get}
-use Rattle.std.proofs.lemmas.Bool.{cases_Bool, cases_eq, cases_lt, lt-ltb, le-ltb, ltb-true, eq-eqb, ne_eqb, cond-true, cond-false, or_left, or_right, or_cases, and_parts, and_from, false≢true, true≢false, or_parts}
+use Rattle.std.proofs.lemmas.Bool.{cases_Bool, cases_eq, cases_lt, lt-ltb, le-ltb, eq-eqb, ne_eqb, cond-true, cond-false, or_left, or_cases, and_parts, and_from, false≢true, true≢false, or_parts}
 use Rattle.maps.specs.declared.doorway.Doorway.{Doorway}
 use Rattle.sightlines.specs.declared.refusal.Refusal.{Refusal}
 use Rattle.sightlines.specs.declared.refusal.Refusal.TheVariants.{NoSuchRoom, NotFilled, NoSuchDoorway, Already}
 use Rattle.sightlines.specs.declared.call.Call.{Call}
-use Rattle.sightlines.specs.declared.call.Call.TheVariants.{Fill, Shows, Shut, Open}
-use Rattle.sightlines.specs.declared.call.Answer.{Answer}
-use Rattle.sightlines.specs.declared.call.Answer.TheVariants.{Count, Seen, Refused}
+use Rattle.sightlines.specs.declared.call.Call.TheVariants.{Fill, Shows}
 use Rattle.sightlines.specs.Answers.{counted, sighted}
-use Rattle.sightlines.specs.Histories.{turned, turns, shut_after, SeenAfter, Apart, Current, Counts, Lost, Stands}
+use Rattle.sightlines.specs.Histories.{turns, shut_after, SeenAfter, Apart, Current, Counts, Lost, Stands}
 use Rattle.sightlines.specs.Replies.{TurnAnswered, FillAnswered, ShowsAnswered}
-use Rattle.sightlines.specs.Sets.{Numbers, with, without, both, number, Exactly}
+use Rattle.sightlines.specs.Sets.{Numbers, both, Exactly}
 use Rattle.sightlines.specs.Sights.{touches}
 use Rattle.sightlines.specs.States.{State, ByGround, place, no_room, no_sight, no_turn, Fills, Turns}
 use Rattle.sightlines.specs.Walks.{TrueRow}
 use Rattle.sightlines.specs.Worlds.{World, Lawful}
 use Rattle.sightlines.proofs.SameRows.{row_stays, row_stayed}
-use Rattle.sightlines.proofs.States.{fill_refused, nth_some, turn_missing, turn_already, turn_free}
+use Rattle.sightlines.proofs.States.{fill_refused, turn_missing, turn_already, turn_free}
 
 -- what a call did, by its ground
 module _ {X : Type 0} (o : Option Refusal) (r : Result X Refusal) (s t : State) (P : X → Type 0) (h : ByGround o r s t P) where

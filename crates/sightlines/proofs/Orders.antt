@@ -1,9 +1,9 @@
 -- The questions of a search are exactly the due ones, in dictionary order.
-use Rattle.std.proofs.Common.{◌≡◌, ℕ, zero, suc, ◌+◌, ◌<◌, ◌≤◌, Bool, true, false, cond, ◌⊎◌, List, [], ◌∷◌, ◌++◌, length, Some, None, Option, sym, refl, ap, ◌∙◌, subst, subst₂, inl, inr, ⊎_elim, arith}
+use Rattle.std.proofs.Common.{◌≡◌, ℕ, zero, suc, ◌+◌, ◌<◌, Bool, true, false, cond, List, [], ◌∷◌, ◌++◌, length, Some, None, Option, sym, refl, ◌∙◌, subst, subst₂, inl, inr, ⊎_elim, arith}
 use Rattle.std.specs.List.{range_with_len, flat_map}
 use Rattle.std.proofs.lemmas.Bool.{cases_Bool}
 use Rattle.plane.specs.declared.quad.Quad.{Quad}
-use Rattle.sightlines.specs.Orders.{In, Before, Rising, without_last, Due, InOrder}
+use Rattle.sightlines.specs.Orders.{In, Before, Rising, without_last, InOrder}
 use Rattle.sightlines.specs.Questions.{tried, rest, due}
 use Rattle.sightlines.specs.Trips.{Trip}
 use Rattle.sightlines.specs.Sets.{Numbers, only, with, free}

@@ -1,6 +1,6 @@
 -- A walk is a sequence of portals that enters no cell twice.
-use Rattle.std.proofs.Common.{◌≡◌, ℕ, Bool, true, false, eqb, ◌⊎◌, List, [], ◌∷◌, sym, refl, ap, ◌∙◌, subst, inl, inr, ⊎_elim}
-use Rattle.std.proofs.lemmas.Bool.{eq-eqb, ne_eqb, eqb-false, or_parts, or_from, true≢false}
+use Rattle.std.proofs.Common.{◌≡◌, ℕ, Bool, false, eqb, List, [], ◌∷◌, sym, refl, ap, ◌∙◌, subst, inl, inr, ⊎_elim}
+use Rattle.std.proofs.lemmas.Bool.{eq-eqb, ne_eqb, or_parts, or_from, true≢false}
 use Rattle.plane.specs.declared.quad.Quad.{Quad}
 use Rattle.sightlines.specs.Orders.{In}
 use Rattle.sightlines.specs.Portals.{Passes, end, Once, Sequence, Sees}

@@ -1,12 +1,11 @@
 -- The questions that come after a walk, doorway by doorway.
-use Rattle.std.proofs.Common.{◌≡◌, ℕ, zero, suc, ◌+◌, ◌-◌, ◌<◌, ◌≤◌, Bool, true, false, cond, List, [], ◌∷◌, ◌++◌, length, Some, None, fold, Option, sym, refl, ap, ◌∙◌, subst, add-one, arith}
-use mathlib.Core.Path.{subst₃}
+use Rattle.std.proofs.Common.{◌≡◌, ℕ, zero, suc, ◌+◌, ◌-◌, ◌<◌, ◌≤◌, Bool, true, false, cond, List, [], ◌∷◌, ◌++◌, Some, None, fold, sym, refl, ap, ◌∙◌, add-one, arith}
 use Rattle.std.specs.List.{range_with_len, flat_map}
 use Rattle.std.proofs.lemmas.List.{flat_map_more, append_assoc}
 use Rattle.std.proofs.lemmas.Bool.{cond-true}
 use Rattle.plane.specs.declared.quad.Quad.{Quad}
 use Rattle.sightlines.specs.Sets.{Numbers, with, free}
-use Rattle.sightlines.specs.Worlds.{World, world}
+use Rattle.sightlines.specs.Worlds.{World}
 use Rattle.sightlines.specs.Steps.{onward}
 use Rattle.sightlines.specs.Questions.{Rest, tried, tries, rest, due, visited}
 use Rattle.sightlines.specs.Trips.{Trip}

@@ -1,5 +1,5 @@
 -- What a witness call and a bitmap answer follows from the history.
-use Rattle.std.proofs.Common.{◌≡◌, ℕ, zero, suc, ◌+◌, ◌<◌, ◌≤◌, Bool, true, false, cond, ◌&&◌, ◌⊎◌, List, ◌++◌, length, take, drop, IfOk, Some, None, Ok, Err, Option, Result, sym, refl, ap, ◌∙◌, subst, inl, inr, ⊎_elim, arith, MatchResult}
+use Rattle.std.proofs.Common.{◌≡◌, ℕ, zero, suc, ◌<◌, ◌≤◌, true, false, List, ◌++◌, length, take, drop, IfOk, Some, None, Ok, Err, Option, Result, sym, refl, ap, ◌∙◌, subst, ⊎_elim, arith, MatchResult}
 use Rattle.std.proofs.lemmas.List.{drop_at}
 use Rattle.std.proofs.lemmas.Bool.{cases_Bool, cond-false, and_from}
 use Rattle.plane.specs.declared.quad.Quad.{Quad}
@@ -19,8 +19,8 @@ use Rattle.sightlines.specs.Limits.{most_rooms}
 use Rattle.sightlines.specs.Replies.{Space, Replied, WitnessFound, WitnessAnswered, size, BitmapAnswered}
 use Rattle.sightlines.specs.Sets.{Numbers}
 use Rattle.sightlines.specs.States.{State, ByGround}
-use Rattle.sightlines.specs.Walks.{TrueRow, Lined}
-use Rattle.sightlines.specs.Witnesses.{FirstOf, no_witness, Granted, Witnessed}
+use Rattle.sightlines.specs.Walks.{Lined}
+use Rattle.sightlines.specs.Witnesses.{FirstOf, no_witness, Witnessed}
 use Rattle.sightlines.specs.Worlds.{World, Inside}
 use Rattle.sightlines.proofs.Bitmaps.{every_not, bitmap_size, bitmap_short, bitmap_granted}
 use Rattle.sightlines.proofs.Grounds.{witness_missing, witness_same, witness_short, witness_free}

@@ -1,24 +1,20 @@
 -- Calls that are refused, and calls that are granted.
-use Rattle.std.proofs.Common.{◌≡◌, ℕ, zero, suc, ◌+◌, ◌-◌, ◌<◌, ◌≤◌, Bool, true, false, cond, eqb, ltb, ◌⊎◌, List, [], ◌∷◌, length, get_or, set, Some, None, Ok, Err, Option, Result, sym, refl, ap, ◌∙◌, subst, inl, inr, ⊎_elim, arith, MatchResult}
+use Rattle.std.proofs.Common.{◌≡◌, ℕ, zero, suc, ◌+◌, ◌-◌, ◌<◌, ◌≤◌, Bool, true, false, cond, eqb, ltb, List, [], ◌∷◌, length, get_or, set, Some, None, Ok, Err, Option, sym, refl, ap, ◌∙◌, subst, ⊎_elim, arith}
 use mathlib.Core.Path.{fun_ext}
 use mathlib.Core.Bool.{beq}
 use Rattle.std.specs.List.{slice_get}
 use Rattle.std.proofs.lemmas.List.{get_or-set_same, get_or-set_other}
 use Rattle.std.proofs.lemmas.Option.{slice_get_past}
 use Rattle.std.proofs.lemmas.Bool.{cases_Bool, cases_eq, cases_lt, lt-ltb, le-ltb, eq-eqb, ne_eqb, cond-true, cond-false}
-use Rattle.plane.specs.declared.quad.Quad.{Quad}
-use Rattle.maps.specs.declared.doorway.Doorway.{Doorway}
 use Rattle.sightlines.specs.declared.refusal.Refusal.{Refusal}
 use Rattle.sightlines.specs.declared.refusal.Refusal.TheVariants.{NoSuchRoom, NoSuchDoorway, Already}
 use Rattle.sightlines.specs.Limits.{most_rooms}
-use Rattle.sightlines.specs.Sets.{Numbers, marks, with, without, both, number, Exactly}
-use Rattle.sightlines.specs.Sights.{touches}
-use Rattle.sightlines.specs.States.{State, ByGround, place, no_room, no_turn, Fills, Turns}
-use Rattle.sightlines.specs.Walks.{Goes, TrueRow}
+use Rattle.sightlines.specs.Sets.{Numbers, marks, with, number, Exactly}
+use Rattle.sightlines.specs.States.{State, ByGround, place, no_room, no_turn, Fills}
+use Rattle.sightlines.specs.Walks.{TrueRow}
 use Rattle.sightlines.specs.Worlds.{World, Inside}
 use Rattle.sightlines.proofs.Fillings.{walk_inside}
 use Rattle.sightlines.proofs.Numbers.{number_wide}
-use Rattle.sightlines.proofs.Steps.{follows_inside}
 
 module _ {X : Type 0} (o : Option Refusal) (s t : State) (P : X → Type 0) where
   pub refused : (e : Refusal) → o ≡ Some e → t ≡ s → ByGround o (Err e) s t P

@@ -1,9 +1,9 @@
 -- The rooms that the due questions show are the true row.
-use Rattle.std.proofs.Common.{◌≡◌, ℕ, zero, suc, ◌+◌, ◌<◌, ◌≤◌, Bool, true, false, cond, ◌||◌, eqb, ◌⊎◌, List, [], ◌∷◌, ◌++◌, length, pos, negsuc, Some, None, Option, sym, refl, ap, ◌∙◌, subst, ap₂, inl, inr, ⊎_elim, arith, lit≤}
-use Rattle.std.specs.List.{slice_get, range_with_len}
+use Rattle.std.proofs.Common.{◌≡◌, ℕ, zero, suc, ◌<◌, ◌≤◌, Bool, true, false, cond, eqb, ◌⊎◌, List, [], ◌∷◌, ◌++◌, length, pos, Some, None, Option, sym, refl, ap, ◌∙◌, subst, ap₂, inl, inr, ⊎_elim, arith}
+use Rattle.std.specs.List.{range_with_len}
 use Rattle.std.proofs.lemmas.List.{append-nil, append_assoc}
 use Rattle.std.proofs.lemmas.Option.{slice_get_past}
-use Rattle.std.proofs.lemmas.Bool.{cases_Bool, cases_lt, eqb-true, eq-eqb, or_cases, or_left, or_right, cond-true, cond-false}
+use Rattle.std.proofs.lemmas.Bool.{cases_Bool, cases_lt, eqb-true, eq-eqb, or_cases, or_left, or_right}
 use Rattle.plane.specs.declared.quad.Quad.{Quad}
 use Rattle.plane.specs.Limits.{Path}
 use Rattle.plane.specs.Separation.{Stabbed}
@@ -11,7 +11,7 @@ use Rattle.sightlines.specs.Sets.{Numbers, none, only, with, free}
 use Rattle.sightlines.specs.Worlds.{World, Inside, Lawful}
 use Rattle.sightlines.specs.Walks.{Follows, Goes, Walk, Open, TrueRow}
 use Rattle.sightlines.specs.Steps.{onward}
-use Rattle.sightlines.specs.Questions.{Rest, tried, tries, rest, due, shown_all}
+use Rattle.sightlines.specs.Questions.{Rest, tried, rest, due, shown_all}
 use Rattle.sightlines.specs.Trips.{Trip}
 use Rattle.sightlines.specs.Orders.{In, without_last}
 use Rattle.sightlines.proofs.Members.{in_joined, joined_in, in_counting}

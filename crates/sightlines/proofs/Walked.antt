@@ -1,7 +1,7 @@
 -- A run of calls, as far as it has come.
-use Rattle.std.proofs.Common.{◌≡◌, ℕ, zero, suc, ◌+◌, ◌<◌, ◌≤◌, Bool, true, false, List, [], ◌∷◌, ◌++◌, map, reverse, length, get_or, take, drop, set, sym, refl, ap, ◌∙◌, subst, subst₂, ⊎_elim, arith}
+use Rattle.std.proofs.Common.{◌≡◌, ℕ, zero, suc, ◌+◌, ◌<◌, Bool, List, [], ◌∷◌, map, reverse, length, get_or, take, drop, set, sym, refl, ap, ◌∙◌, subst, subst₂, ⊎_elim, arith}
 use Rattle.std.specs.List.{HoldsAt}
-use Rattle.std.proofs.lemmas.List.{take_more, drop_more, reverse-append, get_or_default, length-map, get_or-set_same, get_or-set_other, get_or_read, drop-set-lt, drop-drop, length-set}
+use Rattle.std.proofs.lemmas.List.{take_more, drop_more, reverse-append, get_or_default, length-map, get_or-set_same, get_or-set_other, drop-set-lt, drop-drop, length-set}
 use Rattle.std.proofs.lemmas.Bool.{cases_eq, false≢true}
 use Rattle.sightlines.specs.declared.call.Call.{Call}
 use Rattle.sightlines.specs.declared.order.Order.{Order}

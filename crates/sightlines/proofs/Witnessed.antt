@@ -1,5 +1,5 @@
 -- The search for a room ends at the first due walk that leads there, and that is the first walk of all.
-use Rattle.std.proofs.Common.{◌≡◌, ℕ, ◌+◌, ◌<◌, ◌≤◌, Bool, true, false, cond, ◌&&◌, eqb, ◌⊎◌, List, [], ◌∷◌, ◌++◌, length, take, drop, is_some, Some, None, fold, Option, sym, refl, ap, ◌∙◌, subst, ap₂, inl, inr, ⊎_elim, arith}
+use Rattle.std.proofs.Common.{◌≡◌, ℕ, ◌+◌, ◌<◌, ◌≤◌, Bool, true, false, eqb, ◌⊎◌, List, [], ◌∷◌, ◌++◌, length, take, drop, is_some, Some, None, fold, Option, sym, refl, ap, ◌∙◌, subst, inl, inr, ⊎_elim, arith}
 use mathlib.Core.Path.{fun_ext}
 use Rattle.std.proofs.lemmas.List.{take_at, length-append, length-drop}
 use Rattle.std.proofs.lemmas.Bool.{cases_Bool, cond-true, cond-false, eqb-true, eq-eqb, and_parts, and_from, and_left, and_right, true≢false}
@@ -8,7 +8,7 @@ use Rattle.plane.specs.declared.quad.Quad.{Quad}
 use Rattle.plane.specs.Separation.{Coefficients}
 use Rattle.sightlines.specs.declared.quest.Quest.{Quest}
 use Rattle.sightlines.specs.Copying.{over}
-use Rattle.sightlines.specs.Orders.{In, Before, Rising, Due, InOrder}
+use Rattle.sightlines.specs.Orders.{In, Before, Rising, InOrder}
 use Rattle.sightlines.specs.Questions.{visited, toured, asked_all}
 use Rattle.sightlines.specs.Quests.{kept, quested}
 use Rattle.sightlines.specs.Sets.{Numbers}

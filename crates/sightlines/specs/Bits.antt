@@ -2,7 +2,7 @@
 --   bit v i       whether bit i of the byte v is 1
 --   shown xs      the rooms whose bits are 1 in the bytes xs
 --   marked xs b   the bytes xs with the bit of room b set
-use Rattle.std.specs.Prelude.{ℕ, ◌-◌, ◌*◌, ◌/◌, ◌%◌, ◌^◌, Bool, List, set, ◌==◌, bit_or, slice_index, slice_set}
+use Rattle.std.specs.Prelude.{ℕ, ◌-◌, ◌*◌, ◌/◌, ◌%◌, ◌^◌, Bool, List, ◌==◌, bit_or, slice_index, slice_set}
 use Rattle.sightlines.specs.Sets.{Numbers}
 
 abbrev pub bit : ℕ → ℕ → Bool

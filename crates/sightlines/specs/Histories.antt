@@ -11,7 +11,7 @@
 --   Lost w h c a        row a was current before the call c and is not any more
 --   Stands w h s        the state s is as the history h makes it: the shut doorways, the current rows and no others filled,
 --                       and each filled row shows exactly the true row
-use Rattle.std.specs.Prelude.{◌≡◌, ℕ, ◌<◌, ◌≤◌, Bool, true, false, cond, not, ◌&&◌, ◌⊎◌, List, [], ◌∷◌, length, Some, nat_lt}
+use Rattle.std.specs.Prelude.{◌≡◌, ℕ, ◌<◌, Bool, true, false, cond, not, ◌&&◌, ◌⊎◌, List, [], ◌∷◌, length, Some, nat_lt}
 use Rattle.std.specs.Bool.{beq}
 use Rattle.std.specs.List.{slice_get}
 use Rattle.maps.specs.declared.doorway.Doorway.{Doorway}

@@ -10,7 +10,7 @@
 --   visited ..        how a stabber and a visitor stand after the visitor was told of a walk, unless it had ended
 --   toured ..         the same after the walks ts
 --   shown_all w r ts  the rooms r and those to which the walks of ts that are let through lead
-use Rattle.std.specs.Prelude.{ℕ, zero, suc, Bool, true, false, cond, List, [], ◌∷◌, ◌++◌, length, Some, None, fold, Option}
+use Rattle.std.specs.Prelude.{ℕ, zero, suc, Bool, cond, List, [], ◌∷◌, ◌++◌, length, Some, None, fold, Option}
 use Rattle.std.specs.List.{range_with_len, flat_map}
 use Rattle.plane.specs.declared.quad.Quad.{Quad}
 use Rattle.sightlines.specs.Sets.{Numbers, with, free}

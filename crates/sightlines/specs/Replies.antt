@@ -15,7 +15,7 @@
 --                       the call c after h answers r and turns the space s into t, where k says whether the stabber is sharp
 --   Answered k w h o p  the order o, made after h, has become p
 --   calls_of os         the calls of the orders os
-use Rattle.std.specs.Prelude.{◌≡◌, ℕ, ◌+◌, ◌*◌, ◌<◌, ◌≤◌, Bool, true, false, ◌⊎◌, List, ◌++◌, map, length, take, drop, Some, vec_items, Option, ◌≢◌}
+use Rattle.std.specs.Prelude.{◌≡◌, ℕ, ◌+◌, ◌*◌, ◌<◌, ◌≤◌, Bool, true, false, ◌⊎◌, List, ◌++◌, map, length, take, drop, Some, vec_items, ◌≢◌}
 use Rattle.plane.specs.declared.quad.Quad.{Quad}
 use Rattle.plane.specs.Limits.{InLimits}
 use Rattle.plane.specs.Separation.{Proper, Separates, Stabbed}

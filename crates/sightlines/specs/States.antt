@@ -10,7 +10,7 @@
 --   Fills w s a t n    filling row a turns s into t and answers n: the row shows exactly the true row, and n counts it
 --   Turns w s k v t n  shutting or opening doorway k turns s into t and answers n: each filled row that shows the near or
 --                      the far room is filled no more, and n counts these
-use Rattle.std.specs.Prelude.{◌≡◌, ℕ, ◌<◌, Bool, cond, List, length, Some, None, Ok, Err, Option, Result, MatchResult, ◌==◌, ◌≢◌, nat_lt}
+use Rattle.std.specs.Prelude.{◌≡◌, ℕ, ◌<◌, Bool, cond, length, Some, None, Err, Option, Result, MatchResult, ◌==◌, ◌≢◌, nat_lt}
 use Rattle.std.specs.Bool.{beq}
 use Rattle.std.specs.List.{slice_get}
 use Rattle.maps.specs.declared.doorway.Doorway.{Doorway}

@@ -3,7 +3,7 @@
 --   fresh e o            the step o, unless it enters one of the rooms e
 --   through e a o        the step from the room a through the doorway o, where there is one, into a room not of e
 --   onward ds shut e a k the same through doorway k of the list ds, where it is open
-use Rattle.std.specs.Prelude.{ℕ, Bool, true, false, cond, List, Some, None, Option, ◌==◌}
+use Rattle.std.specs.Prelude.{ℕ, cond, List, Some, None, Option, ◌==◌}
 use Rattle.std.specs.List.{slice_get}
 use Rattle.plane.specs.declared.quad.Quad.{Quad}
 use Rattle.maps.specs.declared.doorway.Doorway.{Doorway}

@@ -1,24 +1,21 @@
 -- Each call keeps the state as the history makes it, and answers what the history says.
-use Rattle.std.proofs.Common.{◌≡◌, ℕ, ◌<◌, ◌≤◌, Bool, true, false, cond, not, ◌&&◌, ◌||◌, eqb, ltb, ◌⊎◌, List, [], ◌∷◌, length, Some, None, Ok, Err, Option, Result, unwrap_or, sym, refl, ap, ◌∙◌, subst, inl, inr, ⊎_elim, arith, MatchResult}
+use Rattle.std.proofs.Common.{◌≡◌, ℕ, ◌<◌, ◌≤◌, Bool, true, false, cond, not, ◌&&◌, ◌||◌, eqb, ltb, List, ◌∷◌, length, Some, None, Ok, Err, Option, Result, unwrap_or, sym, refl, ap, ◌∙◌, subst, inl, inr, ⊎_elim, arith, MatchResult}
 use mathlib.Core.Bool.{beq}
-use Rattle.std.specs.List.{slice_get}
-use Rattle.std.proofs.lemmas.Bool.{cases_Bool, cases_eq, cases_lt, lt-ltb, le-ltb, ltb-true, eq-eqb, ne_eqb, cond-true, cond-false, or_left, or_right, or_cases, and_parts, and_from, false≢true, true≢false, or_parts}
+use Rattle.std.proofs.lemmas.Bool.{cases_Bool, cases_eq, cases_lt, lt-ltb, le-ltb, eq-eqb, ne_eqb, cond-true, cond-false, or_left, or_cases, and_parts, and_from, false≢true, true≢false, or_parts}
 use Rattle.maps.specs.declared.doorway.Doorway.{Doorway}
 use Rattle.visibility.specs.declared.refusal.Refusal.{Refusal}
 use Rattle.visibility.specs.declared.refusal.Refusal.TheVariants.{NoSuchRoom, NotFilled, NoSuchDoorway, Already}
 use Rattle.visibility.specs.declared.call.Call.{Call}
-use Rattle.visibility.specs.declared.call.Call.TheVariants.{Fill, Shows, Shut, Open}
-use Rattle.visibility.specs.declared.call.Answer.{Answer}
-use Rattle.visibility.specs.declared.call.Answer.TheVariants.{Count, Seen, Refused}
+use Rattle.visibility.specs.declared.call.Call.TheVariants.{Fill, Shows}
 use Rattle.visibility.specs.Answers.{counted, sighted}
-use Rattle.visibility.specs.Histories.{turned, turns, shut_after, SeenAfter, Apart, Current, Counts, Lost, TurnAnswered, FillAnswered, ShowsAnswered, Answered, Stands}
-use Rattle.visibility.specs.Sets.{Numbers, with, without, both, number, Exactly}
+use Rattle.visibility.specs.Histories.{turns, shut_after, SeenAfter, Apart, Current, Counts, Lost, TurnAnswered, FillAnswered, ShowsAnswered, Stands}
+use Rattle.visibility.specs.Sets.{Numbers, both, Exactly}
 use Rattle.visibility.specs.Sights.{touches}
 use Rattle.visibility.specs.States.{State, ByGround, place, no_room, no_sight, no_turn, Fills, Turns}
 use Rattle.visibility.specs.Walks.{TrueRow}
 use Rattle.visibility.specs.Worlds.{World, Lawful}
 use Rattle.visibility.proofs.SameRows.{row_stays, row_stayed}
-use Rattle.visibility.proofs.States.{fill_refused, nth_some, turn_missing, turn_already, turn_free}
+use Rattle.visibility.proofs.States.{fill_refused, turn_missing, turn_already, turn_free}
 
 -- what a call did, by its ground
 module _ {X : Type 0} (o : Option Refusal) (r : Result X Refusal) (s t : State) (P : X → Type 0) (h : ByGround o r s t P) where

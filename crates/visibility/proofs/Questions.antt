@@ -1,13 +1,12 @@
 -- The questions that come after a walk, doorway by doorway.
-use Rattle.std.proofs.Common.{◌≡◌, ℕ, zero, suc, ◌+◌, ◌<◌, ◌≤◌, Bool, true, false, cond, List, [], ◌∷◌, ◌++◌, length, Some, None, fold, Option, sym, refl, ap, ◌∙◌, subst, add-one, arith}
-use mathlib.Core.Path.{subst₃}
+use Rattle.std.proofs.Common.{◌≡◌, ℕ, zero, suc, ◌+◌, ◌<◌, true, false, cond, List, [], ◌∷◌, ◌++◌, Some, None, fold, sym, refl, ap, ◌∙◌, add-one, arith}
 use Rattle.std.specs.List.{range_with_len, flat_map}
-use Rattle.std.proofs.lemmas.List.{flat_map_more, append-nil}
+use Rattle.std.proofs.lemmas.List.{flat_map_more}
 use Rattle.plane.specs.declared.quad.Quad.{Quad}
 use Rattle.visibility.specs.Sets.{Numbers, with, free}
-use Rattle.visibility.specs.Worlds.{World, world}
+use Rattle.visibility.specs.Worlds.{World}
 use Rattle.visibility.specs.Steps.{onward}
-use Rattle.visibility.specs.Questions.{Trip, Rest, tried, tries, rest, due, asked_all, shown_all}
+use Rattle.visibility.specs.Questions.{Trip, Rest, tried, tries, rest, due}
 use Rattle.visibility.proofs.Numbers.{free_with}
 
 -- the questions after a walk, as far as the doorways below j

@@ -1,5 +1,5 @@
 -- Calls that are refused, and calls that are granted.
-use Rattle.std.proofs.Common.{◌≡◌, ℕ, zero, suc, ◌+◌, ◌-◌, ◌<◌, ◌≤◌, Bool, true, false, cond, eqb, ltb, ◌⊎◌, List, [], ◌∷◌, length, get_or, set, Some, None, Ok, Err, Option, Result, sym, refl, ap, ◌∙◌, subst, inl, inr, ⊎_elim, arith, MatchResult}
+use Rattle.std.proofs.Common.{◌≡◌, ℕ, zero, suc, ◌+◌, ◌-◌, ◌<◌, ◌≤◌, Bool, true, false, cond, eqb, ltb, List, [], ◌∷◌, length, get_or, set, Some, None, Ok, Err, Option, sym, refl, ap, ◌∙◌, subst, ⊎_elim, arith}
 use mathlib.Core.Path.{fun_ext}
 use mathlib.Core.Bool.{beq}
 use Rattle.std.specs.List.{slice_get}
@@ -7,13 +7,11 @@ use Rattle.std.proofs.lemmas.List.{get_or-set_same, get_or-set_other}
 use Rattle.std.proofs.lemmas.Option.{slice_get_past}
 use Rattle.std.proofs.lemmas.Bool.{cases_Bool, cases_eq, cases_lt, lt-ltb, le-ltb, eq-eqb, ne_eqb, cond-true, cond-false}
 use Rattle.plane.specs.declared.quad.Quad.{Quad}
-use Rattle.maps.specs.declared.doorway.Doorway.{Doorway}
 use Rattle.visibility.specs.declared.refusal.Refusal.{Refusal}
 use Rattle.visibility.specs.declared.refusal.Refusal.TheVariants.{NoSuchRoom, NoSuchDoorway, Already}
 use Rattle.visibility.specs.Limits.{most_rooms}
-use Rattle.visibility.specs.Sets.{Numbers, marks, with, without, both, number, Exactly}
-use Rattle.visibility.specs.Sights.{touches}
-use Rattle.visibility.specs.States.{State, ByGround, place, no_room, no_turn, Fills, Turns}
+use Rattle.visibility.specs.Sets.{Numbers, marks, with, number, Exactly}
+use Rattle.visibility.specs.States.{State, ByGround, place, no_room, no_turn, Fills}
 use Rattle.visibility.specs.Walks.{Goes, TrueRow}
 use Rattle.visibility.specs.Worlds.{World, Inside}
 use Rattle.visibility.proofs.Numbers.{number_wide}

@@ -1,5 +1,5 @@
 -- A turn of the search: what holds as it comes to doorway k, and that this holds again at the next.
-use Rattle.std.proofs.Common.{◌≡◌, ℕ, zero, suc, ◌+◌, ◌<◌, ◌≤◌, Bool, true, false, cond, List, [], ◌∷◌, ◌++◌, length, get_or, take, set, Some, None, Option, sym, refl, ap, ◌∙◌, subst, arith}
+use Rattle.std.proofs.Common.{◌≡◌, ℕ, suc, ◌+◌, ◌<◌, ◌≤◌, Bool, true, false, cond, List, [], ◌∷◌, ◌++◌, length, take, set, Some, None, sym, ap, ◌∙◌, subst, arith}
 use mathlib.Core.Path.{subst₃, fun_ext}
 use Rattle.std.proofs.lemmas.List.{take-set, take_more_set, take-take, length-set, set-set, set-get_or}
 use Rattle.plane.specs.declared.quad.Quad.{Quad}
@@ -7,9 +7,9 @@ use Rattle.maps.specs.declared.doorway.Doorway.{Doorway}
 use Rattle.visibility.specs.Sets.{Numbers, with, free, marks}
 use Rattle.visibility.specs.Worlds.{World, world, Inside}
 use Rattle.visibility.specs.Steps.{onward}
-use Rattle.visibility.specs.Questions.{Trip, due, asked_all, shown_all}
+use Rattle.visibility.specs.Questions.{due, asked_all, shown_all}
 use Rattle.visibility.proofs.Numbers.{marks_set, free_with}
-use Rattle.visibility.proofs.Questions.{upto, trip, follow_none, follow_no, follow_yes}
+use Rattle.visibility.proofs.Questions.{upto, follow_none, follow_no, follow_yes}
 use Rattle.visibility.proofs.Steps.{step_follows, follows_inside}
 
 -- the room that comes next: it is in the world, was not entered, and entering it leaves one fewer

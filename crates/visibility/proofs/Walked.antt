@@ -1,11 +1,11 @@
 -- A run of calls, as far as it has come.
-use Rattle.std.proofs.Common.{◌≡◌, ℕ, ◌+◌, ◌<◌, ◌≤◌, Bool, true, false, List, [], ◌∷◌, ◌++◌, reverse, length, get_or, take, drop, set, sym, refl, ap, ◌∙◌, subst, subst₂, ⊎_elim, arith}
+use Rattle.std.proofs.Common.{◌≡◌, ℕ, ◌+◌, ◌<◌, List, [], ◌∷◌, reverse, length, get_or, take, drop, set, sym, refl, ap, ◌∙◌, subst, subst₂, ⊎_elim, arith}
 use Rattle.std.specs.List.{HoldsAt}
 use Rattle.std.proofs.lemmas.List.{take_more, reverse-append, get_or-set_same, get_or-set_other, get_or_read, drop-set-lt, drop-drop, length-set}
 use Rattle.std.proofs.lemmas.Bool.{cases_eq, false≢true}
 use Rattle.visibility.specs.declared.call.Call.{Call}
 use Rattle.visibility.specs.declared.call.Answer.{Answer}
-use Rattle.visibility.specs.Histories.{Answered, Stands, Current, shut_after}
+use Rattle.visibility.specs.Histories.{Answered, Stands}
 use Rattle.visibility.specs.Sets.{Numbers, none}
 use Rattle.visibility.specs.States.{State}
 use Rattle.visibility.specs.Worlds.{World}

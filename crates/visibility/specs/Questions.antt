@@ -9,7 +9,7 @@
 --   due w shut ..     the same for walks of any length
 --   asked_all f s ts  how a stabber s stands after the questions ts, where f tells that of one question
 --   shown_all w r ts  the rooms r and those to which the walks of ts that are let through lead
-use Rattle.std.specs.Prelude.{ℕ, zero, suc, Bool, true, false, cond, List, [], ◌∷◌, ◌++◌, length, Some, None, fold, Option}
+use Rattle.std.specs.Prelude.{ℕ, zero, suc, cond, List, [], ◌∷◌, ◌++◌, length, Some, None, fold, Option}
 use Rattle.std.specs.List.{range_with_len, flat_map}
 use Rattle.plane.specs.declared.quad.Quad.{Quad}
 use Rattle.visibility.specs.Sets.{Numbers, with, free}

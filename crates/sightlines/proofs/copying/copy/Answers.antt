@@ -1,4 +1,4 @@
-use Rattle.std.proofs.Common.{◌≡◌, ℕ, ◌<◌, min, List, length, get_or, set, ap, ◌∙◌, arith}
+use Rattle.std.proofs.Common.{ℕ, List, get_or, set, ap, ◌∙◌, arith}
 use Rattle.sightlines.proofs.Copies.{copied_more, copied_all}
 use Rattle.sightlines.proofs.copying.copy.Goals as goal
 

@@ -1,13 +1,12 @@
-use Rattle.std.proofs.Common.{◌≡◌, ℕ, ◌/◌, ◌<◌, ◌≤◌, Bool, true, false, cond, not, [], length, set, sym, refl, ap, ◌∙◌, subst, arith, rules}
+use Rattle.std.proofs.Common.{◌≡◌, ◌/◌, ◌<◌, [], length, sym, refl, ap, ◌∙◌, arith}
 use Rattle.std.proofs.lemmas.List.{length-set}
-use Rattle.sightlines.specs.Sets.{Numbers, none, with, only, marks, free}
+use Rattle.sightlines.specs.Sets.{Numbers, none, with, only, marks}
 use Rattle.sightlines.specs.Worlds.{world}
-use Rattle.sightlines.specs.Bits.{shown, marked}
-use Rattle.sightlines.specs.Questions.{due, asked_all, shown_all, toured}
+use Rattle.sightlines.specs.Bits.{shown}
+use Rattle.sightlines.specs.Questions.{due, shown_all}
 use Rattle.sightlines.specs.Orders.{In}
 use Rattle.sightlines.specs.Trips.{Trip}
 use Rattle.sightlines.specs.declared.row.Row.{Row}
-use Rattle.sightlines.proofs.Numbers.{marks_only, number_le}
 use Rattle.sightlines.proofs.Orders.{in_order}
 use Rattle.sightlines.proofs.TrueRows.{shown_true, true_shown, empty_let}
 use Rattle.sightlines.proofs.Fillings.{toured_row, walk_inside}

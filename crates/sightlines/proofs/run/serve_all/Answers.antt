@@ -1,4 +1,4 @@
-use Rattle.std.proofs.Common.{◌≡◌, ℕ, ◌<◌, ◌≤◌, Bool, List, ◌∷◌, reverse, length, get_or, take, refl, ◌∙◌, subst, subst₂, arith}
+use Rattle.std.proofs.Common.{◌<◌, ◌≤◌, Bool, List, ◌∷◌, reverse, length, get_or, take, ◌∙◌, subst, subst₂, arith}
 use Rattle.std.proofs.lemmas.List.{take_all, length-map, get_or_default}
 use Rattle.sightlines.specs.declared.call.Call.{Call}
 use Rattle.sightlines.specs.declared.order.Order.{Order}

@@ -1,4 +1,4 @@
-use Rattle.std.proofs.Common.{◌<◌, sym, ◌∙◌, arith}
+use Rattle.std.proofs.Common.{◌<◌, sym, arith}
 use Rattle.sightlines.proofs.Steps.{all_nth, leave_inside}
 use Rattle.sightlines.proofs.step.onward.Goals as goal
 

@@ -1,5 +1,4 @@
-use Rattle.std.proofs.Common.{◌≡◌, ℕ, List, [], length, take, sym, refl, ap, ◌∙◌, subst}
-use Rattle.plane.specs.declared.quad.Quad.{Quad}
+use Rattle.std.proofs.Common.{ℕ, [], take, refl, ap, ◌∙◌, subst}
 use Rattle.sightlines.specs.Sets.{only, marks}
 use Rattle.sightlines.specs.Questions.{due, asked_all}
 use Rattle.sightlines.specs.Witnesses.{leads, ahead, until, Told}

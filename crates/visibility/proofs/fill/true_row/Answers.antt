@@ -1,6 +1,6 @@
-use Rattle.std.proofs.Common.{◌≡◌, ℕ, ◌<◌, ◌≤◌, Bool, true, not, [], length, set, sym, refl, ap, ◌∙◌, subst, arith, rules}
+use Rattle.std.proofs.Common.{◌≡◌, ◌<◌, true, not, [], length, set, sym, ap, ◌∙◌, arith}
 use Rattle.std.proofs.lemmas.List.{length-set}
-use Rattle.visibility.specs.Sets.{Numbers, none, with, only, marks, free}
+use Rattle.visibility.specs.Sets.{Numbers, none, with, only, marks}
 use Rattle.visibility.specs.Worlds.{world}
 use Rattle.visibility.specs.Bits.{shown}
 use Rattle.visibility.specs.Questions.{due, asked_all, shown_all}

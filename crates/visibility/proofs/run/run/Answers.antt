@@ -1,8 +1,6 @@
-use Rattle.std.proofs.Common.{◌≡◌, ℕ, ◌+◌, ◌<◌, ◌≤◌, min, Bool, List, ◌∷◌, reverse, length, get_or, take, drop, sym, refl, ap, ◌∙◌, subst, ap₂, arith}
+use Rattle.std.proofs.Common.{◌≡◌, ℕ, ◌<◌, min, Bool, List, ◌∷◌, reverse, length, get_or, take, refl, ap, ◌∙◌, subst, arith}
 use Rattle.std.proofs.lemmas.List.{get_or_default}
 use Rattle.plane.specs.declared.quad.Quad.{Quad}
-use Rattle.maps.specs.declared.doorway.Doorway.{Doorway}
-use Rattle.visibility.specs.declared.call.Call.{Call}
 use Rattle.visibility.specs.declared.call.Call.TheVariants.{Fill}
 use Rattle.visibility.specs.Histories.{Answered, Stands}
 use Rattle.visibility.specs.States.{state_of}

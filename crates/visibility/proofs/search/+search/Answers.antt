@@ -1,12 +1,12 @@
-use Rattle.std.proofs.Common.{◌≡◌, ℕ, suc, ◌+◌, ◌-◌, ◌<◌, ◌≤◌, true, List, length, take, set, sym, refl, ap, ◌∙◌, arith, rules}
+use Rattle.std.proofs.Common.{◌≡◌, ℕ, suc, ◌+◌, ◌-◌, ◌<◌, true, List, length, take, set, sym, ap, ◌∙◌, arith}
 use Rattle.std.proofs.lemmas.List.{length-set}
 use Rattle.visibility.specs.Sets.{marks, free}
-use Rattle.visibility.specs.Worlds.{World, world}
+use Rattle.visibility.specs.Worlds.{world}
 use Rattle.visibility.specs.Bits.{shown}
 use Rattle.visibility.specs.declared.row.Row.{Row}
 use Rattle.visibility.specs.Questions.{asked_all, shown_all}
 use Rattle.visibility.proofs.Questions.{upto}
-use Rattle.visibility.proofs.Turns.{Turn, turn_at, turn_none, turn_no, turn_yes, turn_fewer, turn_place, room_inside}
+use Rattle.visibility.proofs.Turns.{turn_at, turn_none, turn_no, turn_yes, turn_fewer, turn_place, room_inside}
 use Rattle.visibility.proofs.search.+search.Goals as goal
 use Rattle.visibility.proofs.search.+search.Goals.{in-Some+then-lets_through, in-Some+else-lets_through, in_default}
 

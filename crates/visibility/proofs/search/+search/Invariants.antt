@@ -1,4 +1,3 @@
-use Rattle.std.proofs.Common.{take}
 use Rattle.visibility.specs.Sets.{marks, free}
 use Rattle.visibility.specs.Bits.{shown}
 use Rattle.visibility.proofs.Turns.{Turn}

@@ -1,4 +1,4 @@
-use Rattle.std.proofs.Common.{◌<◌, sym, ◌∙◌, arith}
+use Rattle.std.proofs.Common.{◌<◌, sym, arith}
 use Rattle.visibility.proofs.Steps.{all_nth, leave_inside}
 use Rattle.visibility.proofs.step.onward.Goals as goal
 

@@ -1,4 +1,4 @@
-use Rattle.std.proofs.Common.{◌≡◌, ℕ, ◌<◌, ◌≤◌, List, [], ◌∷◌, ◌++◌, length, decimal, sym, ap, arith}
+use Rattle.std.proofs.Common.{◌≡◌, ℕ, List, [], ◌∷◌, ◌++◌, length, decimal, sym, ap, arith}
 use Rattle.sightlines.specs.Bitmaps.{heading}
 use Rattle.sightlines.proofs.Decimals.{one_digit, two_digits, three_digits}
 use Rattle.sightlines.proofs.bitmap.Heading.new.Goals as goal

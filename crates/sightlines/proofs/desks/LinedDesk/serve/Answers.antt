@@ -1,4 +1,4 @@
-use Rattle.std.proofs.Common.{◌≡◌, ℕ, Bool, true, List, sym, refl, ap, ◌∙◌, subst₂}
+use Rattle.std.proofs.Common.{Bool, true, List, sym, refl, ap, ◌∙◌, subst₂}
 use Rattle.std.proofs.lemmas.List.{with_items_is}
 use Rattle.plane.specs.declared.quad.Quad.{Quad}
 use Rattle.sightlines.specs.Replies.{Replied}

@@ -1,4 +1,4 @@
-use Rattle.std.proofs.Common.{◌≡◌, ℕ, ◌+◌, get_or, sym, subst}
+use Rattle.std.proofs.Common.{ℕ, ◌+◌, get_or, sym, subst}
 use Rattle.sightlines.specs.Indexes.{Passed}
 use Rattle.sightlines.proofs.index.Index.after.Goals as goal
 

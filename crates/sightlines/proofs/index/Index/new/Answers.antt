@@ -1,7 +1,4 @@
-use Rattle.std.proofs.Common.{◌≡◌, ℕ, ◌+◌, ◌-◌, ◌<◌, ◌≤◌, List, length, replicate, Some, sym, refl, ap, ◌∙◌, subst, subst₂, arith}
-use Rattle.maps.specs.declared.doorway.Doorway.{Doorway}
-use Rattle.sightlines.specs.declared.index.Index.{Index}
-use Rattle.sightlines.specs.Indexes.{entered_in}
+use Rattle.std.proofs.Common.{◌≡◌, ℕ, ◌+◌, ◌-◌, length, replicate, sym, ap, ◌∙◌, subst, subst₂, arith}
 use Rattle.sightlines.proofs.Indexing.{Entered, entered_none, entered_more, entered_all, missing}
 use Rattle.sightlines.proofs.Steps.{all_nth}
 use Rattle.sightlines.proofs.index.Index.new.Goals as goal

@@ -1,4 +1,4 @@
-use Rattle.std.proofs.Common.{◌≡◌, ℕ, ◌+◌, ◌*◌, Bool, true, false, cond, sym, refl, ap, ◌∙◌, arith}
+use Rattle.std.proofs.Common.{◌≡◌, ◌+◌, Bool, true, false, cond, sym, ap, ◌∙◌, arith}
 use Rattle.sightlines.specs.Limits.{most_rooms}
 use Rattle.sightlines.specs.Bits.{shown}
 use Rattle.sightlines.specs.Sets.{number}

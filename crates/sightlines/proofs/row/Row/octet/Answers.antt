@@ -1,4 +1,4 @@
-use Rattle.std.proofs.Common.{◌<◌, get_or, arith}
+use Rattle.std.proofs.Common.{arith}
 use Rattle.sightlines.proofs.Binary.{octet_masked}
 use Rattle.sightlines.proofs.row.Row.octet.Goals as goal
 

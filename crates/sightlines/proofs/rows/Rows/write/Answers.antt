@@ -1,4 +1,4 @@
-use Rattle.std.proofs.Common.{◌≡◌, ℕ, ◌*◌, ◌≤◌, List, length, take, sym, ap, ◌∙◌, subst, zero-mul, arith}
+use Rattle.std.proofs.Common.{◌≡◌, ℕ, ◌*◌, ◌≤◌, length, take, sym, ap, ◌∙◌, subst, zero-mul, arith}
 use Rattle.std.proofs.lemmas.List.{take_all}
 use Rattle.sightlines.specs.Bitmaps.{width, pixels}
 use Rattle.sightlines.specs.Sights.{sight}

@@ -1,4 +1,4 @@
-use Rattle.std.proofs.Common.{◌≡◌, ℕ, ◌+◌, ◌-◌, ◌*◌, true, List, ◌++◌, length, take, drop, sym, refl, ap, ◌∙◌, arith}
+use Rattle.std.proofs.Common.{◌≡◌, ℕ, ◌+◌, ◌-◌, ◌*◌, true, ◌++◌, length, take, drop, sym, refl, ap, ◌∙◌, arith}
 use Rattle.sightlines.specs.Bitmaps.{every, width, heading, pixels, bitmap, no_bitmap}
 use Rattle.sightlines.specs.Sets.{marks}
 use Rattle.sightlines.specs.Sights.{sight}

@@ -1,6 +1,6 @@
-use Rattle.std.proofs.Common.{◌≡◌, ℕ, true, false, List, ◌∷◌, sym, refl, ap, ◌∙◌, subst, subst₂}
+use Rattle.std.proofs.Common.{ℕ, true, false, List, ◌∷◌, sym, refl, ap, subst, subst₂}
 use Rattle.sightlines.specs.declared.call.Call.{Call}
-use Rattle.sightlines.specs.declared.call.Call.TheVariants.{Fill, Shows, Shut, Open, Witness, Bitmap}
+use Rattle.sightlines.specs.declared.call.Call.TheVariants.{Shut, Open, Witness, Bitmap}
 use Rattle.sightlines.specs.declared.call.Answer.{Answer}
 use Rattle.sightlines.specs.declared.call.Answer.TheVariants.{NotSharp}
 use Rattle.sightlines.specs.Histories.{Stands}

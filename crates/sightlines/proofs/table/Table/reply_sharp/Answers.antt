@@ -1,10 +1,10 @@
-use Rattle.std.proofs.Common.{◌≡◌, ℕ, true, false, List, ◌∷◌, sym, refl, ap, ◌∙◌, subst, subst₂}
+use Rattle.std.proofs.Common.{true, ◌∷◌, sym, refl, subst, subst₂}
 use Rattle.sightlines.specs.declared.call.Call.{Call}
 use Rattle.sightlines.specs.declared.call.Call.TheVariants.{Witness}
 use Rattle.sightlines.specs.declared.call.Answer.{Answer}
 use Rattle.sightlines.specs.Histories.{Stands}
 use Rattle.sightlines.specs.Replies.{Space, Replied}
-use Rattle.sightlines.specs.States.{State, state_of}
+use Rattle.sightlines.specs.States.{state_of}
 use Rattle.sightlines.specs.Worlds.{world}
 use Rattle.sightlines.proofs.Histories.{same_stands}
 use Rattle.sightlines.proofs.Paths.{sharp_stabbed}

@@ -1,8 +1,8 @@
-use Rattle.std.proofs.Common.{◌≡◌, ℕ, ◌+◌, ◌-◌, ◌<◌, ◌≤◌, min, ◌⊎◌, [], length, take, Some, None, Option, sym, refl, ap, ◌∙◌, subst, inl, inr, ⊎_elim, arith}
+use Rattle.std.proofs.Common.{◌≡◌, ℕ, [], length, take, Some, None, Option, sym, refl, ap, ◌∙◌, subst, inl, inr, ⊎_elim, arith}
 use Rattle.plane.specs.Separation.{Coefficients}
 use Rattle.sightlines.specs.Copying.{over}
 use Rattle.std.proofs.lemmas.List.{length-take-le}
-use Rattle.sightlines.specs.declared.refusal.Refusal.TheVariants.{NoSuchRoom, SameRoomTwice, SpaceTooShort, NoLine}
+use Rattle.sightlines.specs.declared.refusal.Refusal.TheVariants.{NoSuchRoom, SameRoomTwice, SpaceTooShort}
 use Rattle.sightlines.specs.Questions.{due, asked_all}
 use Rattle.sightlines.specs.Sets.{only, marks}
 use Rattle.sightlines.specs.Witnesses.{leads, ahead, until, no_witness, Told}

@@ -1,4 +1,4 @@
-use Rattle.std.proofs.Common.{◌≡◌, ℕ, ◌+◌, ◌*◌, Bool, true, false, cond, sym, refl, ap, ◌∙◌, arith}
+use Rattle.std.proofs.Common.{◌≡◌, ◌+◌, Bool, true, false, cond, sym, ap, ◌∙◌, arith}
 use Rattle.visibility.specs.Limits.{most_rooms}
 use Rattle.visibility.specs.Bits.{shown}
 use Rattle.visibility.specs.Sets.{number}

@@ -1,6 +1,6 @@
-use Rattle.std.proofs.Common.{◌≡◌, true, false, List, ◌∷◌, sym, refl, ap, ◌∙◌, subst, subst₂}
+use Rattle.std.proofs.Common.{true, false, List, ◌∷◌, sym, refl, ap, subst, subst₂}
 use Rattle.visibility.specs.declared.call.Call.{Call}
-use Rattle.visibility.specs.declared.call.Call.TheVariants.{Fill, Shows, Shut, Open}
+use Rattle.visibility.specs.declared.call.Call.TheVariants.{Shut, Open}
 use Rattle.visibility.specs.declared.call.Answer.{Answer}
 use Rattle.visibility.specs.Histories.{Answered, Stands}
 use Rattle.visibility.specs.States.{state_of}

@@ -1,5 +1,4 @@
-use Rattle.std.proofs.Common.{◌≡◌, ℕ, ◌<◌, ◌≤◌, List, length, set, sym, refl, ap, ◌∙◌, arith, rules}
-use Rattle.maps.specs.declared.doorway.Doorway.{Doorway}
+use Rattle.std.proofs.Common.{◌≡◌, ℕ, ◌<◌, List, length, set, sym, refl, ap, ◌∙◌, arith, rules}
 use Rattle.visibility.specs.Sets.{marks, number, both}
 use Rattle.visibility.specs.Sights.{sight, touches}
 use Rattle.visibility.specs.States.{State, state_of, no_turn, Turns}
