@@ -1,8 +1,8 @@
 #!/usr/bin/env bash
 # Sets the proved driver against the plain one, against answers worked by hand and against Netpbm: bench/agree.sh, from the
-# repository's root, after `rt check exercise`. Needs cargo, python3 and Debian's netpbm. Takes about two minutes.
+# repository's root, after `rt run drill`. Needs cargo, python3 and Debian's netpbm. Takes about two minutes.
 set -eu
-proved=target/bin/exercise
+proved=crates/drill/out/drill
 plain=bench/plain/target/release/plain
 cargo build --quiet --release --offline --manifest-path bench/plain/Cargo.toml
 bench/limits.py $proved $plain

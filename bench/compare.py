@@ -26,7 +26,7 @@ SECONDS = 60
 def options():
     here = os.path.dirname(os.path.abspath(__file__))
     parser = argparse.ArgumentParser()
-    parser.add_argument("--driver", default=os.path.join(here, "../target/bin/exercise"))
+    parser.add_argument("--driver", default=os.path.join(here, "../crates/drill/out/drill"))
     parser.add_argument("--plain", default=os.path.join(here, "plain/target/release/plain"))
     parser.add_argument("--cases", type=int, default=3000)
     parser.add_argument("--seed", type=int, default=1991)

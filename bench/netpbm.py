@@ -15,7 +15,7 @@ import tempfile
 import random_plans
 
 HERE = os.path.dirname(os.path.abspath(__file__))
-PROGRAM = sys.argv[1] if len(sys.argv) > 1 else os.path.join(HERE, "../target/bin/exercise")
+PROGRAM = sys.argv[1] if len(sys.argv) > 1 else os.path.join(HERE, "../crates/drill/out/drill")
 PILES = ["exact", "memory-exact", "both-wedge-exact", "memory-both-wedge-exact", "both-wedge-memory-exact", "memory-memory-exact"]
 
 

@@ -15,7 +15,7 @@ import sys
 import tempfile
 
 HERE = os.path.dirname(os.path.abspath(__file__))
-PROVED = os.path.join(HERE, "../target/bin/exercise")
+PROVED = os.path.join(HERE, "../crates/drill/out/drill")
 PLAIN = os.path.join(HERE, "plain/target/release/plain")
 LINE = "%-14s %-13s %9s %9s %10s %10s %10s %10s %8s"
 

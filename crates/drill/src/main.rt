@@ -1,4 +1,4 @@
-// exercise PLAN PILE: takes orders for a plan's table from standard input, and prints each with its answer.
+// drill PLAN PILE: takes orders for a plan's table from standard input, and prints each with its answer.
 #![tactic(auto)]
 
 mod lines;
@@ -22,7 +22,7 @@ use text::Fault;
 
 // Says how the program is called, and that it was not called so.
 fn usage(rt: &HostRuntime) -> anyhow::Result<()> {
-    eprintln!(rt; "usage: exercise PLAN PILE")?;
+    eprintln!(rt; "usage: drill PLAN PILE")?;
     eprintln!(rt; "PILE is one of exact, wedge, memory-exact, both-wedge-exact,")?;
     eprintln!(rt; "memory-both-wedge-exact, both-wedge-memory-exact, memory-memory-exact")?;
     Err(anyhow!("no plan, no pile, or a file that cannot be read"))
@@ -51,7 +51,7 @@ fn gather(heap: Global, rooms: usize, lines: &mut [Line]) -> Result<Vec<Order>, 
 }
 
 // Says what the map has, takes all orders, runs them on a fresh table, and prints each with its answer.
-fn exercise<M: Map + Drop>(rt: &HostRuntime, map: M, pile: Pile) -> anyhow::Result<()> {
+fn serve<M: Map + Drop>(rt: &HostRuntime, map: M, pile: Pile) -> anyhow::Result<()> {
     let heap = rt.alloc();
     let rooms = map.room_count();
     let doorways = map.doorway_count();
@@ -88,8 +88,8 @@ fn run(rt: &HostRuntime) -> anyhow::Result<()> {
         return usage(rt);
     };
     match plan {
-        Plan::Grid(map) => exercise(rt, map, pile),
-        Plan::Polygon(map) => exercise(rt, map, pile),
+        Plan::Grid(map) => serve(rt, map, pile),
+        Plan::Polygon(map) => serve(rt, map, pile),
         Plan::Refused(fault) => refuse(rt, fault),
     }
 }
