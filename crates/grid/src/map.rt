@@ -1,7 +1,7 @@
 // The map of a grid plan.
 ghost use Rattle.std.specs.Prelude.{◌≡◌, take};
 ghost use Rattle.grid.specs.Doorways.{Pictured};
-ghost use Rattle.maps.specs.Gathered.{within_all};
+ghost use Rattle.maps.specs.Inside.{within_all};
 ghost use Rattle.std.proofs.Common.{rules};
 
 use crate::doorways::find_openings;

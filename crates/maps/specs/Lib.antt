@@ -1,2 +1,2 @@
 pub mod Passages
-pub mod Gathered
+pub mod Inside

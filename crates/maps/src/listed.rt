@@ -1,9 +1,9 @@
 // A map that holds a list of doorways.
 ghost use Rattle.std.specs.Prelude.{◌≡◌, ◌≤◌, true, length, take};
 ghost use Rattle.maps.specs.Passages.{within};
-ghost use Rattle.std.proofs.Common.{arith, rules};
+ghost use Rattle.std.proofs.Common.{arith};
 ghost use Rattle.std.proofs.lemmas.List.{length-take};
-ghost use Rattle.maps.specs.Gathered.{within_all};
+ghost use Rattle.maps.specs.Inside.{within_all};
 
 use crate::doorway::Doorway;
 use crate::map::Map;
@@ -25,9 +25,9 @@ impl Map for Listed {
 
     ghost doorways = { λ m. take m.count m.held };
 
-    ghost inhabited = { first_of (Prim.search rules, Prim.grind (arith, Self.row.coded.inj)) };
+    ghost inhabited = { λ m. m.inhabited };
 
-    ghost bounded = { first_of (Prim.search rules, Prim.grind (arith, Self.row.coded.inj)) };
+    ghost bounded = { λ m. m.bounded };
 
     ghost few = { λ m. omega (arith, length-take m.count m.held, m.few) };
 

@@ -1,7 +1,7 @@
 // The map of a polygon plan: its rooms are the faces, its doorways the edges that two faces share.
 ghost use Rattle.std.specs.Prelude.{take};
 ghost use Rattle.maps.specs.Passages.{Becomes};
-ghost use Rattle.maps.specs.Gathered.{within_all};
+ghost use Rattle.maps.specs.Inside.{within_all};
 ghost use Rattle.std.proofs.Common.{rules};
 
 use maps::doorway::Doorway;

@@ -4,7 +4,7 @@ use Rattle.std.specs.List.{AllByRecursion}
 use Rattle.std.proofs.lemmas.Bool.{eqb-true, eq-eqb}
 use Rattle.maps.specs.declared.doorway.Doorway.{Doorway}
 use Rattle.maps.specs.declared.passage.Passage.{Passage}
-use Rattle.maps.specs.Gathered.{within_all}
+use Rattle.maps.specs.Inside.{within_all}
 use Rattle.grid.specs.Doorways.{eastward, northward}
 use Rattle.stabbing.specs.Exact.{exact_line, first_line}
 use Rattle.stabbing.specs.Wedge.{wedge_lets}

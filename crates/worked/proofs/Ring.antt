@@ -2,7 +2,7 @@
 use Rattle.std.proofs.Common.{◌≡◌, ℕ, ◌/◌, ◌<◌, true, List, [], ◌∷◌, pos, negsuc, refl, arith}
 use Rattle.std.specs.List.{AllByRecursion}
 use Rattle.maps.specs.declared.passage.Passage.{Passage}
-use Rattle.maps.specs.Gathered.{within_all}
+use Rattle.maps.specs.Inside.{within_all}
 use Rattle.grid.specs.Doorways.{eastward, northward}
 use Rattle.stabbing.specs.Exact.{exact_line, first_line}
 use Rattle.stabbing.specs.Found.{exact_front}

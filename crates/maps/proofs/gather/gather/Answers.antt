@@ -4,7 +4,7 @@ use Rattle.std.proofs.ByRecursion.{All-get_or}
 use Rattle.std.proofs.lemmas.List.{take_all}
 use Rattle.std.proofs.lemmas.Bool.{false≢true}
 use Rattle.maps.specs.Passages.{plain, Joins, within}
-use Rattle.maps.specs.Gathered.{gathered}
+use Rattle.maps.proofs.Gathered.{gathered}
 use Rattle.maps.proofs.gather.gather.Goals as goal
 
 pub returns-in-None : goal.returns-in-None

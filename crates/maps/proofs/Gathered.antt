@@ -4,17 +4,10 @@ use Rattle.std.proofs.Common.{sym, ap, subst, ◌∙◌}
 use Rattle.std.specs.List.{AllByRecursion}
 use Rattle.std.proofs.ByRecursion.{All-more}
 use Rattle.std.proofs.lemmas.List.{take_more, take_more_set, map-append}
-use Rattle.std.proofs.lemmas.Bool.{and_from, and_parts, lt-ltb, ltb-true}
+use Rattle.std.proofs.lemmas.Bool.{and_from, and_parts, lt-ltb}
 use Rattle.maps.specs.declared.doorway.Doorway.{Doorway}
 use Rattle.maps.specs.declared.passage.Passage.{Passage}
 use Rattle.maps.specs.Passages.{plain, Joins, within}
-
-pub within_all : (n : ℕ) (ds : List Doorway) → within n ds ≡ true → AllByRecursion (λ d. (d.near < n) × (d.far < n)) ds
-within_all n [] e = tt
-within_all n (d ∷ ds) e =
-    let p = and_parts (nat_lt d.near n && nat_lt d.far n) (within n ds) e in
-    let q = and_parts (nat_lt d.near n) (nat_lt d.far n) p.0 in
-    ((ltb-true d.near n q.0, ltb-true d.far n q.1), within_all n ds p.1)
 
 within_push : (n : ℕ) (ds : List Doorway) (d : Doorway) → within n ds ≡ true → d.near < n → d.far < n → within n (ds ++ d ∷ []) ≡ true
 within_push n [] d e a b = and_from _ _ (and_from _ _ (lt-ltb d.near n a) (lt-ltb d.far n b)) refl
