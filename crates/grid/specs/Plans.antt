@@ -1,5 +1,5 @@
 -- What the reader makes of a text and a space.
---   left-over r     a mark r behind the last pixel is a fault
+--   left_over r     a mark r behind the last pixel is a fault
 --   over t at       only white space may be left of the text t from the place at
 --   Plan            an answer and the space
 --   ended s r sp    the plan of size s, if r, what is left over, is no fault

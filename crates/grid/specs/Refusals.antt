@@ -7,7 +7,7 @@
 --                     bare: the heading ends the text. headless: it begins in any other way.
 --                     bad_width, bad_height: the number is not spelt right. wrong_width, wrong_height: its value is off limits, or their product is.
 --                     few: the text ends before its last pixel. stray: the next byte is no pixel. miscoloured: the next pixel has a wrong colour.
---                     left-over: something stands behind the last pixel.
+--                     left_over: something stands behind the last pixel.
 --   Blamed t sp r     where the space sp is long enough, a fault that is answered is that the text t has more than 60,000 bytes;
 --                     or it has not, and the fault is its first one
 use Rattle.std.specs.Prelude.{◌≡◌, ℕ, ◌+◌, ◌*◌, ◌/◌, ◌%◌, ◌<◌, ◌≤◌, false, ◌⊎◌, List, [], ◌∷◌, ◌++◌, map, length, drop, Some, Err, Result, ◌≢◌, slice_index}

@@ -1,4 +1,4 @@
--- The two_posts theorem: if any line separates a path, then so does the line through some two different posts of it.
+-- The theorem of two posts: if any line separates a path, then so does the line through some two different posts of it.
 -- Let l separate the path, and let P be the left post at which l has the least value. The spokes of P are the lines from
 -- P to each left post and from each right post to P. None of them runs to the right of l, and the most clockwise of them
 -- has all the others on its left: it separates the path.
@@ -71,9 +71,9 @@ parted k P e q h = omega (arith, linear, value_grows k P (left q), value_grows k
 drawn : (p : List Quad) (l : Coefficients) (P : Point) → Has (posts p) P → pos 0 ≤ℤ value l P → (q : Quad) →
     Crossed p l q × (value l P ≤ℤ value l (left q)) →
     (Drawn p P (P, left q) × Left l (through P (left q))) × (Drawn p P (right q, P) × Left l (through (right q) P))
-drawn p l P has h q (((Has-left, Has-right), parts), k) =
+drawn p l P has h q (((has_left, has_right), parts), k) =
     let turns = spokes_left l P q h k parts in
-    (((has, Has-left, at_start P (left q)), turns.0), ((Has-right, has, at_end (right q) P), turns.1))
+    (((has, has_left, at_start P (left q)), turns.0), ((has_right, has, at_end (right q) P), turns.1))
 
 -- the most clockwise spoke of a left post of least value gives the answer; its own right post gives a proper spoke
 from_least : (p : List Quad) (l : Coefficients) → Proper l → (m : Quad) → Apart m → Crossed p l m →

@@ -11,7 +11,7 @@ use Rattle.text.proofs.Marks.{finds}
 use Rattle.plane.specs.Limits.{PostAt}
 use Rattle.plane.specs.Separation.{Point}
 use Rattle.polygon.specs.declared.layout.Plan.{Plan}
-use Rattle.polygon.specs.Corners.{corner as read-corner}
+use Rattle.polygon.specs.Corners.{corner as read_corner}
 use Rattle.polygon.specs.Faces.{Facing, faced}
 use Rattle.polygon.specs.Headings.{headed}
 use Rattle.polygon.specs.Layouts as layouts
@@ -65,11 +65,11 @@ module _ (t : List ℕ) (f : Fault) where
 
   module _ (n : ℕ × ℕ) (at : ℕ) (counted : Counted t n.0 n.1 at) (ps : List Point) (ss ns : List ℕ) where
     abbrev row : Filling Point
-    row = filled (read-corner t) n.0 0 at ps
+    row = filled (read_corner t) n.0 0 at ps
 
     corners_blame : row.result ≡ Err f → Faulty t f
     corners_blame e =
-        let h = fills_failed t (read-corner t) CornerSpelt PostAt (corners t) n.0 0 at ps f e in
+        let h = fills_failed t (read_corner t) CornerSpelt PostAt (corners t) n.0 0 at ps f e in
         corner n.0 n.1 h.xs h.place (record { start = at; counted = counted; spelt = h.spelt; posts = h.such }) h.early (corner_wrong t h.place f h.bad)
 
     module _ (ok : row.result ≡ Ok tt) where
@@ -81,7 +81,7 @@ module _ (t : List ℕ) (f : Fault) where
       Rest = (cs : List Point) × (length cs ≡ n.0) × Cornered t n.0 n.1 cs row.at
 
       rest : Rest
-      rest = let cs = fills_sound t (read-corner t) CornerSpelt PostAt (corners t) n.0 0 at ps ok in (cs.0, cs.1, record { start = at; counted = counted; spelt = cs.2; posts = cs.3 })
+      rest = let cs = fills_sound t (read_corner t) CornerSpelt PostAt (corners t) n.0 0 at ps ok in (cs.0, cs.1, record { start = at; counted = counted; spelt = cs.2; posts = cs.3 })
 
       faces_blame : faces.result ≡ Err f → Faulty t f
       faces_blame e =
@@ -114,7 +114,7 @@ module _ (t : List ℕ) (f : Fault) where
 
   module _ (ps : List Point) (ss ns : List ℕ) where
     at_totals_blame : Headed t → (r : Result (ℕ × ℕ) Fault) → (totals t 3).result ≡ r → (at_totals t r (totals t 3).at ps ss ns).result ≡ Err f → Faulty t f
-    at_totals_blame head (Ok n) is e = at_corners_blame n (totals t 3).at (totals_sound t head n is) ps ss ns (filled (read-corner t) n.0 0 (totals t 3).at ps).result refl e
+    at_totals_blame head (Ok n) is e = at_corners_blame n (totals t 3).at (totals_sound t head n is) ps ss ns (filled (read_corner t) n.0 0 (totals t 3).at ps).result refl e
     at_totals_blame head (Err g) is e = let same : g ≡ f = cc in totals_blame head (is ∙ ap Err same)
 
     at_heading_blame : (r : Result ℕ Fault) → headed t ≡ r → (at_heading t r ps ss ns).result ≡ Err f → Faulty t f

@@ -27,7 +27,7 @@ list_step face f start i table front x h inv is =
     ∙ append_assoc front (edges_to face f i) (edge face f i ∷ [])
     ∙ ap (λ l. front ++ l) (sym (edges_more face f i) ∙ ap (edges_to face f) (sym (add-one i)))
 
-module _ (ns : List ℕ) (start s e : ℕ) (in-ns : start ≤ length ns) (up : start ≤ e) (top : e ≤ length ns) (full : start + s ≤ length ns → e ≡ start + s) (cut : length ns < start + s → e ≡ length ns) where
+module _ (ns : List ℕ) (start s e : ℕ) (in_ns : start ≤ length ns) (up : start ≤ e) (top : e ≤ length ns) (full : start + s ≤ length ns → e ≡ start + s) (cut : length ns < start + s → e ≡ length ns) where
   abbrev face : List ℕ
   face = take (e - start) (drop start ns)
 
@@ -38,8 +38,8 @@ module _ (ns : List ℕ) (start s e : ℕ) (in-ns : start ≤ length ns) (up : s
       → take start old ++ all_edges f (drop f ss) (drop start ns) ≡ all → take (start + length face) new ≡ take start old ++ edges_to face f (length face)
       → take e new ++ all_edges (f + 1) (drop (f + 1) ss) (drop e ns) ≡ all
   faces_step f ss old new all h size inv told =
-      let same : face ≡ take s (drop start ns) = part ns start s e in-ns up full cut in
-      let later : drop s (drop start ns) ≡ drop e ns = onward ns start s e in-ns up full cut in
+      let same : face ≡ take s (drop start ns) = part ns start s e in_ns up full cut in
+      let later : drop s (drop start ns) ≡ drop e ns = onward ns start s e in_ns up full cut in
       ap (λ n. take n new ++ all_edges (f + 1) (drop (f + 1) ss) (drop e ns)) (sym face_length)
       ∙ ap (λ l. l ++ all_edges (f + 1) (drop (f + 1) ss) (drop e ns)) told
       ∙ append_assoc (take start old) (edges_to face f (length face)) (all_edges (f + 1) (drop (f + 1) ss) (drop e ns))

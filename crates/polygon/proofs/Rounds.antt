@@ -65,7 +65,7 @@ module _ (ps : List Point) (face : List ℕ) where
       let back : n + k - n ≡ k = omega arith in
       get_or-append_right once_round once_round n (n + k) z (length-map face (spot ps)) (omega arith) ∙ ap (λ m. get_or once_round m z) back ∙ get_or-map (spot ps) face k 0 z h
 
-  module _ (big : 3 ≤ n) (i : ℕ) (in-face : i < n) where
+  module _ (big : 3 ≤ n) (i : ℕ) (in_face : i < n) where
     behind : get_or (ring ps face) (i + 1) z ≡ corner_of ps face (after face i)
     behind = go (cases_lt (i + 1) n)
       where
@@ -114,7 +114,7 @@ module _ (ps : List Point) (face : List ℕ) where
         let all = (and_parts (not (same_point P Q)) (all_left (through P Q) others) c).1 in
         let m = among j h a b in
         let here = left_each (through P Q) others z all m.0 (omega (arith, m.1, many)) in
-        let moved : strictly_left (through (corner_of ps face i) (corner_of ps face (after face i))) (corner_of ps face j) ≡ true = (λ k. strictly_left (through (sym (low i in-face) k) (sym behind k)) (sym m.2 k)) ∙ here in
+        let moved : strictly_left (through (corner_of ps face i) (corner_of ps face (after face i))) (corner_of ps face j) ≡ true = (λ k. strictly_left (through (sym (low i in_face) k) (sym behind k)) (sym m.2 k)) ∙ here in
         record { lt = subst T (sym moved) tt }
 
     after_on : i + 1 < n → after face i ≡ i + 1
@@ -149,7 +149,7 @@ module _ (ps : List Point) (face : List ℕ) where
         above : (m : ℕ) → m < n - 2 → pos 0 <ℤ value (through P Q) (get_or others m z)
         above m l =
             let w = which m l in
-            subst (λ (x : Point × Point × Point). pos 0 <ℤ value (through x.0 x.1) x.2) (λ k. (sym (low i in-face) k, sym behind k, sym w.4 k)) (h w.0 w.1 w.2 w.3)
+            subst (λ (x : Point × Point × Point). pos 0 <ℤ value (through x.0 x.1) x.2) (λ k. (sym (low i in_face) k, sym behind k, sym w.4 k)) (h w.0 w.1 w.2 w.3)
 
         strict : (m : ℕ) → m < n - 2 → strictly_left (through P Q) (get_or others m z) ≡ true
         strict m l = passes (strictly_left (through P Q) (get_or others m z)) (above m l).lt

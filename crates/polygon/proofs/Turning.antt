@@ -100,7 +100,7 @@ convex_is ps face n m a b r size low high e first second is =
     is ∙ ap turns_left whole ∙ ap (λ t. t && turns_left (ring ps face)) (sym fits)
 
 -- a face that starts at the place start and has s corner numbers, as far as there are any, up to the place e
-module _ (ns : List ℕ) (start s e : ℕ) (in-ns : start ≤ length ns) (up : start ≤ e) (full : start + s ≤ length ns → e ≡ start + s) (cut : length ns < start + s → e ≡ length ns) where
+module _ (ns : List ℕ) (start s e : ℕ) (in_ns : start ≤ length ns) (up : start ≤ e) (full : start + s ≤ length ns → e ≡ start + s) (cut : length ns < start + s → e ≡ length ns) where
   pub part : take (e - start) (drop start ns) ≡ take s (drop start ns)
   part = go (cases_lt (length ns) (start + s))
     where

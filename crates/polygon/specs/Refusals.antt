@@ -12,7 +12,7 @@
 --   Faulty t f             f is the first fault of the text t in reading order, or else of the plan that it spells.
 --                          bare: the heading ends the text. headless: it begins in any other way.
 --                          corner_count, face_count, edge_count, corner, face: this is the first that is wrong.
---                          left-over: something stands behind the last face.
+--                          left_over: something stands behind the last face.
 --                          bent: the first face that is not convex. twice: the first face with an edge that was used so before.
 use Rattle.std.specs.Prelude.{◌≡◌, ℕ, ◌+◌, ◌<◌, ◌≤◌, Bool, true, false, List, [], ◌∷◌, length, drop, ℤ, Some, Err, ◌≢◌, unsigned_abs}
 use Rattle.std.specs.List.{AllByRecursion}

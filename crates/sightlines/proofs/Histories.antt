@@ -163,11 +163,11 @@ without_from false t a b = a
 -- shut and open
 module _ (w : World) (lawful : Lawful w) (h : List Call) (c : Call) (k : ℕ) (v : Bool) (made : shut_after w (c ∷ h) ≡ cond (turns w h k v) (place (shut_after w h) k v) (shut_after w h)) (into : (a : ℕ) → Current w h a × (turns w h k v ≡ true → Apart w h a k) → Current w (c ∷ h) a) (out : (a : ℕ) → Current w (c ∷ h) a → Current w h a × (turns w h k v ≡ true → Apart w h a k)) where
   turn_kept : (s : State) → turns w h k v ≡ false → Stands w h s → Stands w (c ∷ h) s
-  turn_kept s no-turn' st =
-      same_stands w h c s st (made ∙ cond-false (turns w h k v) _ _ no-turn')
-      (λ a l. (λ x. (out a x).0, λ x. into a (x, λ y. absurd (false≢true (sym no-turn' ∙ y)))))
+  turn_kept s no_turn' st =
+      same_stands w h c s st (made ∙ cond-false (turns w h k v) _ _ no_turn')
+      (λ a l. (λ x. (out a x).0, λ x. into a (x, λ y. absurd (false≢true (sym no_turn' ∙ y)))))
 
-  module _ (s t : State) (n : ℕ) (yes-turn : turns w h k v ≡ true) (st : Stands w h s) (f : Turns w s k v t n) where
+  module _ (s t : State) (n : ℕ) (yes_turn : turns w h k v ≡ true) (st : Stands w h s) (f : Turns w s k v t n) where
     touch : Numbers
     touch = touches s.shows f.doorway.near f.doorway.far
 
@@ -196,7 +196,7 @@ module _ (w : World) (lawful : Lawful w) (h : List Call) (c : Call) (k : ℕ) (v
         (cases_Bool (touches s.shows f.doorway.near f.doorway.far x))
 
     after : shut_after w (c ∷ h) ≡ place (shut_after w h) k v
-    after = made ∙ cond-true (turns w h k v) _ _ yes-turn
+    after = made ∙ cond-true (turns w h k v) _ _ yes_turn
 
     turn_stands : Stands w (c ∷ h) t
     turn_stands = record {
@@ -207,7 +207,7 @@ module _ (w : World) (lawful : Lawful w) (h : List Call) (c : Call) (k : ℕ) (v
       filled = λ x l cur.
           let o = out x cur in
           let g = st.filled x l o.0 in
-          f.filled x l ∙ without_from (s.filled x) _ g (met x l g (o.1 yes-turn));
+          f.filled x l ∙ without_from (s.filled x) _ g (met x l g (o.1 yes_turn));
       true_row = λ x l g.
           let p = without_parts (s.filled x) _ (sym (f.filled x l) ∙ g) in
           let row = st.true_row x l p.0 in
@@ -228,7 +228,7 @@ module _ (w : World) (lawful : Lawful w) (h : List Call) (c : Call) (k : ℕ) (v
       (λ x l. (
         λ y.
             let p = and_parts (s.filled x) _ y in
-            (st.current x l p.0, λ cur. true≢false (sym p.1 ∙ met x l p.0 ((out x cur).1 yes-turn))),
+            (st.current x l p.0, λ cur. true≢false (sym p.1 ∙ met x l p.0 ((out x cur).1 yes_turn))),
         λ lost.
             let g = st.filled x l lost.0 in
             and_from (s.filled x) _ g

@@ -56,7 +56,7 @@ module _ (ds : List Doorway) where
       past : (k : ℕ) (d : Doorway) → length ds ≤ k → slice_get ds k ≡ Some d → ⊥
       past k d l q = let b = nth_some ds k d q in omega arith
 
-  module _ (m : ℕ) (x : Index) (d : Doorway) (here : slice_get ds m ≡ Some d) (low : m < 2048) (in_near : d.near < 256) (in-far : d.far < 256) (was : Entered ds (m + 1) x) where
+  module _ (m : ℕ) (x : Index) (d : Doorway) (here : slice_get ds m ≡ Some d) (low : m < 2048) (in_near : d.near < 256) (in_far : d.far < 256) (was : Entered ds (m + 1) x) where
     below : m < length ds
     below = nth_some ds m d here
 
@@ -71,17 +71,17 @@ module _ (ds : List Doorway) where
         let e : get_or (entered_in x m d).first a 0 ≡ m =
         ap (λ (j : ℕ). get_or (entered_in x m d).first j 0) f ∙ get_or-set_same (set x.first d.near m) d.far m 0 long in
         subst (Passed ds a m) (sym e) (omega arith, omega (arith, below), λ i c p q. absurd (omega arith)))
-        (λ (not-far : a ≡ d.far → ⊥).
+        (λ (not_far : a ≡ d.far → ⊥).
         let past_far : get_or (entered_in x m d).first a 0 ≡ get_or (set x.first d.near m) a 0 =
-        get_or-set_other (set x.first d.near m) d.far a m 0 not-far in
+        get_or-set_other (set x.first d.near m) d.far a m 0 not_far in
         ⊎_elim
         (λ (n : a ≡ d.near).
         let long : d.near < length x.first = omega (arith, was.firsts) in
         let e : get_or (entered_in x m d).first a 0 ≡ m =
         past_far ∙ ap (λ (j : ℕ). get_or (set x.first d.near m) j 0) n ∙ get_or-set_same x.first d.near m 0 long in
         subst (Passed ds a m) (sym e) (omega arith, omega (arith, below), λ i c p q. absurd (omega arith)))
-        (λ (not-near : a ≡ d.near → ⊥).
-        let e : get_or (entered_in x m d).first a 0 ≡ get_or x.first a 0 = past_far ∙ get_or-set_other x.first d.near a m 0 not-near in
+        (λ (not_near : a ≡ d.near → ⊥).
+        let e : get_or (entered_in x m d).first a 0 ≡ get_or x.first a 0 = past_far ∙ get_or-set_other x.first d.near a m 0 not_near in
         let old = was.first a l in
         subst (Passed ds a m) (sym e) (
           omega (arith, old.0),
@@ -89,7 +89,7 @@ module _ (ds : List Doorway) where
           λ i c p q r. ⊎_elim
               (λ (s : i ≡ m).
               let t : d ≡ c = same c (subst (λ (j : ℕ). slice_get ds j ≡ Some c) s r) in
-              subst (λ (z : Doorway). Aside z a) t ((λ u. not-near (sym u)), (λ u. not-far (sym u))))
+              subst (λ (z : Doorway). Aside z a) t ((λ u. not_near (sym u)), (λ u. not_far (sym u))))
               (λ (ne : i ≡ m → ⊥). old.2 i c (omega arith) q r)
               (cases_eq i m),
         ))
@@ -123,7 +123,7 @@ module _ (ds : List Doorway) where
       fars = length-set x.far m _ ∙ was.fars;
       first = here_first;
       near = next (λ c. c.near) x.near in_near was.nears was.near;
-      far = next (λ c. c.far) x.far in-far was.fars was.far;
+      far = next (λ c. c.far) x.far in_far was.fars was.far;
     }
 
   pub entered_all : (x : Index) → Entered ds 0 x → Indexed ds x

@@ -12,7 +12,7 @@ use Rattle.sightlines.specs.Walks.{Goes, Walk, Open, TrueRow, forward, backward}
 use Rattle.sightlines.specs.Worlds.{World, Lawful}
 use Rattle.sightlines.proofs.TrueRows.{lets_front}
 
-module _ (w : World) (lawful : Lawful w) (shut : Numbers) (k : ℕ) (d : Doorway) (is-d : slice_get w.doorways k ≡ Some d) where
+module _ (w : World) (lawful : Lawful w) (shut : Numbers) (k : ℕ) (d : Doorway) (is_d : slice_get w.doorways k ≡ Some d) where
   -- a walk that reaches neither side by open doorways never comes to k
   avoids :
       (e : Numbers) (a : ℕ) (ks : List ℕ) (b : ℕ) (s p : List Quad)
@@ -20,14 +20,14 @@ module _ (w : World) (lawful : Lawful w) (shut : Numbers) (k : ℕ) (d : Doorway
       → (d.near ≡ c → ⊥) × (d.far ≡ c → ⊥))
       → Goes w e a ks b s → AllByRecursion (λ j. (j ≡ k) ⊎ (shut j ≡ false)) ks → w.lets (p ++ s) ≡ true
       → AllByRecursion (λ j. (j ≡ k → ⊥) × (shut j ≡ false)) ks
-  avoids e a [] b s p far-off g o y = tt
-  avoids e a (j ∷ ks) b [] p far-off g o y = absurd g
-  avoids e a (j ∷ ks) b (q ∷ s) p far-off g o y =
+  avoids e a [] b s p far_off g o y = tt
+  avoids e a (j ∷ ks) b [] p far_off g o y = absurd g
+  avoids e a (j ∷ ks) b (q ∷ s) p far_off g o y =
       let front : w.lets p ≡ true = lets_front w lawful p (q ∷ s) y in
-      let here = far-off [] a [] refl tt (subst (λ (v : List Quad). w.lets v ≡ true) (sym (append-nil p)) front) in
+      let here = far_off [] a [] refl tt (subst (λ (v : List Quad). w.lets v ≡ true) (sym (append-nil p)) front) in
       let other : j ≡ k → ⊥ = λ (e : j ≡ k).
       let same : g.1.0 ≡ d =
-      ap (λ (o : Option Doorway). unwrap_or o d) (sym g.1.1 ∙ ap (slice_get w.doorways) e ∙ is-d) in
+      ap (λ (o : Option Doorway). unwrap_or o d) (sym g.1.1 ∙ ap (slice_get w.doorways) e ∙ is_d) in
       ⊎_elim
       (λ (l : (g.1.0.near ≡ a) × (g.1.0.far ≡ g.0) × (q ≡ forward g.1.0)). here.0 (sym (ap (λ (x : Doorway). x.near) same) ∙ l.0))
       (λ (r : (g.1.0.far ≡ a) × (g.1.0.near ≡ g.0) × (q ≡ backward g.1.0)). here.1 (sym (ap (λ (x : Doorway). x.far) same) ∙ r.0))
@@ -35,12 +35,12 @@ module _ (w : World) (lawful : Lawful w) (shut : Numbers) (k : ℕ) (d : Doorway
       let open_j : shut j ≡ false = ⊎_elim (λ (e : j ≡ k). absurd (other e)) (λ (h : shut j ≡ false). h) o.0 in (
         (other, open_j),
         avoids (with e g.0) g.0 ks b s (p ++ q ∷ [])
-            (λ js c r g' o' y'. far-off (j ∷ js) c (q ∷ r) (g.0, g.1, g') (open_j, o')
+            (λ js c r g' o' y'. far_off (j ∷ js) c (q ∷ r) (g.0, g.1, g') (open_j, o')
             (subst (λ (v : List Quad). w.lets v ≡ true) (append_assoc p (q ∷ []) r) y'))
             g.2 o.1 (subst (λ (v : List Quad). w.lets v ≡ true) (sym (append_assoc p (q ∷ []) s)) y),
       )
 
-  module _ (a : ℕ) (no_near : TrueRow w shut a d.near → ⊥) (no-far : TrueRow w shut a d.far → ⊥) where
+  module _ (a : ℕ) (no_near : TrueRow w shut a d.near → ⊥) (no_far : TrueRow w shut a d.far → ⊥) where
     walk_avoids :
         (ks : List ℕ) (b : ℕ) (s : List Quad) → Walk w a ks b s → AllByRecursion (λ j. (j ≡ k) ⊎ (shut j ≡ false)) ks → w.lets s ≡ true
         → AllByRecursion (λ j. (j ≡ k → ⊥) × (shut j ≡ false)) ks
@@ -48,7 +48,7 @@ module _ (w : World) (lawful : Lawful w) (shut : Numbers) (k : ℕ) (d : Doorway
         avoids (only a) a ks b s []
         (λ js c r g' o' y'. (
           λ (e : d.near ≡ c). no_near (subst (TrueRow w shut a) (sym e) (js, r, g', o', y')),
-          λ (e : d.far ≡ c). no-far (subst (TrueRow w shut a) (sym e) (js, r, g', o', y')),
+          λ (e : d.far ≡ c). no_far (subst (TrueRow w shut a) (sym e) (js, r, g', o', y')),
         ))
         g o y
 

@@ -71,10 +71,10 @@ unfolding first_line
 line_through_has [] h s = refl
 line_through_has (q ∷ p) h s =
     let path : List Quad = q ∷ p in
-    let (P, Q, (j, j<, at-P), (k, k<, at-Q), two, parts) = two_posts path (λ e. let z : ◌≡◌ {A = ℕ} 0 1 = cc in omega arith) (apart path h) s in
+    let (P, Q, (j, j<, at_P), (k, k<, at_Q), two, parts) = two_posts path (λ e. let z : ◌≡◌ {A = ℕ} 0 1 = cc in omega arith) (apart path h) s in
     let differ : same_point P Q ≡ false = not_same (same_point P Q) (λ e. two ((same_point_decides P Q).0 e)) in
-    tries_has (λ l. separates l path) P (posts path) (posts path) j j< (at-P P)
-    (fan_has (λ l. separates l path) P Q (posts path) k k< (at-Q Q) differ ((separates_decides (through P Q) path).1 parts))
+    tries_has (λ l. separates l path) P (posts path) (posts path) j j< (at_P P)
+    (fan_has (λ l. separates l path) P Q (posts path) k k< (at_Q Q) differ ((separates_decides (through P Q) path).1 parts))
   where
     not_same : (b : Bool) → (b ≡ true → ⊥) → b ≡ false
     not_same true f = absurd (f refl)

@@ -21,7 +21,7 @@ fn recall(held: Option<Line>, path: &[Quad]) -> Option<(i32, i32, i32)>
     ensures { result ≡ recalled held path.now }
 {
     let line = held?;
-    if line.separates(path) && is_path(path) {
+    if is_path(path) && line.separates(path) {
         Some(line.numbers())
     } else {
         None

@@ -17,7 +17,7 @@ use Rattle.sightlines.specs.Questions.{rest}
 use Rattle.sightlines.specs.Sets.{none, only, number}
 use Rattle.sightlines.specs.Trips.{Trip}
 use Rattle.sightlines.specs.Worlds.{World, Inside, Lawful}
-use Rattle.worked.specs.Cases.{under_exact, under_wedge, Row_is, LineIs, CorridorCases}
+use Rattle.worked.specs.Cases.{under_exact, under_wedge, RowIs, LineIs, CorridorCases}
 use Rattle.worked.proofs.Known.{Fair, doorway, doorways}
 use Rattle.worked.proofs.Rows.{row_is, line_is, not_shown}
 
@@ -69,16 +69,16 @@ module _ (gs : AllByRecursion Fair corridor_doorways) where
   unfolding exact_line first_line rest number
   witness = line_is w none 0 inside lawful empty 2 (omega arith) two_bytes 8 there (negsuc 1, pos 4, negsuc 3) (λ e. omega arith) refl refl
 
-  exact_row : Row_is w none 0 (0xC3 ∷ 0x80 ∷ []) 5
+  exact_row : RowIs w none 0 (0xC3 ∷ 0x80 ∷ []) 5
   unfolding exact_line first_line rest number
   exact_row = row_is w none 0 inside lawful empty 2 (omega arith) two_bytes (0xC3 ∷ 0x80 ∷ []) 5 (omega arith) refl refl
 
-  wedge_row : Row_is v none 0 (0xC3 ∷ 0xC0 ∷ []) 6
+  wedge_row : RowIs v none 0 (0xC3 ∷ 0xC0 ∷ []) 6
   unfolding wedge_lets exact_line first_line rest number
   wedge_row = row_is v none 0 inside wedge_front wedge_empty 2 (omega arith) two_bytes (0xC3 ∷ 0xC0 ∷ []) 6 (omega arith) refl refl
 
   -- room 5 sees itself alone
-  row_5 : Row_is w none 5 (0x04 ∷ 0x00 ∷ []) 1
+  row_5 : RowIs w none 5 (0x04 ∷ 0x00 ∷ []) 1
   unfolding exact_line first_line rest number
   row_5 = row_is w none 5 inside lawful empty 2 (omega arith) two_bytes (0x04 ∷ 0x00 ∷ []) 1 (omega arith) refl refl
 

@@ -12,7 +12,7 @@ use Rattle.sightlines.specs.Questions.{rest}
 use Rattle.sightlines.specs.Sets.{Numbers, none, number}
 use Rattle.sightlines.specs.Trips.{Trip}
 use Rattle.sightlines.specs.Worlds.{World, Inside, Lawful}
-use Rattle.worked.specs.Cases.{under_exact, Row_is, LineIs, RingCases}
+use Rattle.worked.specs.Cases.{under_exact, RowIs, LineIs, RingCases}
 use Rattle.worked.proofs.Known.{Fair, doorways}
 use Rattle.worked.proofs.Rows.{row_is, line_is, not_shown}
 
@@ -52,19 +52,19 @@ module _ (gs : AllByRecursion Fair ring_doorways) where
   unfolding exact_line first_line rest number
   witness = line_is w none 0 inside lawful empty 1 (omega arith) one_byte 3 there (negsuc 0, pos 1, pos 1) (λ e. omega arith) refl refl
 
-  row_0 : Row_is w shut 0 (0xD0 ∷ []) 3
+  row_0 : RowIs w shut 0 (0xD0 ∷ []) 3
   unfolding exact_line first_line rest number
   row_0 = row_is w shut 0 inside lawful empty 1 (omega arith) one_byte (0xD0 ∷ []) 3 (omega arith) refl refl
 
-  row_1 : Row_is w shut 1 (0xF0 ∷ []) 4
+  row_1 : RowIs w shut 1 (0xF0 ∷ []) 4
   unfolding exact_line first_line rest number
   row_1 = row_is w shut 1 inside lawful empty 1 (omega arith) one_byte (0xF0 ∷ []) 4 (omega arith) refl refl
 
-  row_2 : Row_is w shut 2 (0x70 ∷ []) 3
+  row_2 : RowIs w shut 2 (0x70 ∷ []) 3
   unfolding exact_line first_line rest number
   row_2 = row_is w shut 2 inside lawful empty 1 (omega arith) one_byte (0x70 ∷ []) 3 (omega arith) refl refl
 
-  row_3 : Row_is w shut 3 (0xF0 ∷ []) 4
+  row_3 : RowIs w shut 3 (0xF0 ∷ []) 4
   unfolding exact_line first_line rest number
   row_3 = row_is w shut 3 inside lawful empty 1 (omega arith) one_byte (0xF0 ∷ []) 4 (omega arith) refl refl
 

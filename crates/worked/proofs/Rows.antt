@@ -23,7 +23,7 @@ use Rattle.sightlines.proofs.Fillings.{toured_row, walk_inside}
 use Rattle.sightlines.proofs.Orders.{in_order}
 use Rattle.sightlines.proofs.TrueRows.{shown_true, true_shown}
 use Rattle.sightlines.proofs.Witnessed.{first_walk}
-use Rattle.worked.specs.Cases.{Row_is, LineIs, NoLine}
+use Rattle.worked.specs.Cases.{RowIs, LineIs, NoLine}
 
 abbrev pub clear : ℕ → List ℕ
 clear n = replicate n 0
@@ -59,7 +59,7 @@ module _ (w : World) (shut : Numbers) (a : ℕ) where
 
     -- what the search leaves is the row
     pub row_is :
-        (bs : List ℕ) (c : ℕ) → a / 8 < length (clear n) → row_of n ≡ bs → number w.rooms (shown bs) ≡ c → Row_is w shut a bs c
+        (bs : List ℕ) (c : ℕ) → a / 8 < length (clear n) → row_of n ≡ bs → number w.rooms (shown bs) ≡ c → RowIs w shut a bs c
     row_is bs c has e count = (subst (λ (xs : List ℕ). Exactly (shown xs) (TrueRow w shut a)) e (row_exactly has), count)
 
     -- the first question that leads to b is the first walk
@@ -70,5 +70,5 @@ module _ (w : World) (shut : Numbers) (a : ℕ) where
 
 -- a room that a row does not show is not in it
 pub not_shown :
-    (w : World) (shut : Numbers) (a b : ℕ) (bs : List ℕ) (c : ℕ) → Row_is w shut a bs c → shown bs b ≡ false → NoLine w shut a b
+    (w : World) (shut : Numbers) (a b : ℕ) (bs : List ℕ) (c : ℕ) → RowIs w shut a bs c → shown bs b ≡ false → NoLine w shut a b
 not_shown w shut a b bs c row dark t = true≢false (sym ((row.0 b).1 t) ∙ dark)

@@ -1,6 +1,6 @@
 -- Cases on the two plans, worked out by hand. Numbers of rows are in hexadecimal.
 --   under_exact n ds, under_wedge n ds   the world of n rooms and the doorways ds, under Exact and under Wedge
---   Row_is w shut a bs c      the true row of a shows exactly the rooms whose bits are 1 in the bytes bs, and these are c
+--   RowIs w shut a bs c      the true row of a shows exactly the rooms whose bits are 1 in the bytes bs, and these are c
 --   LineIs w shut a b ks l   the first open walk from a to b that is let through is ks, and Exact's line for it is l
 --   NoLine w shut a b        no open walk from a to b is let through
 --   RingCases w              the cases of the ring, where w is its world under Exact: a witness; and where doorway 1 was shut, a witness
@@ -30,8 +30,8 @@ under_exact n ds = world n ds (λ p. is_some (exact_line p))
 abbrev pub under_wedge : ℕ → List Doorway → World
 under_wedge n ds = world n ds wedge_lets
 
-abbrev pub Row_is : World → Numbers → ℕ → List ℕ → ℕ → Type 0
-Row_is w shut a bs c = Exactly (shown bs) (TrueRow w shut a) × (number w.rooms (shown bs) ≡ c)
+abbrev pub RowIs : World → Numbers → ℕ → List ℕ → ℕ → Type 0
+RowIs w shut a bs c = Exactly (shown bs) (TrueRow w shut a) × (number w.rooms (shown bs) ≡ c)
 
 abbrev pub LineIs : World → Numbers → ℕ → ℕ → List ℕ → Coefficients → Type 0
 LineIs w shut a b ks l = (p : List Quad) × FirstWalk w shut a b ks p × (exact_line p ≡ Some l)
@@ -42,14 +42,14 @@ NoLine w shut a b = TrueRow w shut a b → ⊥
 pub record RingCases (w : World) : Type 0 where
   pub witness : LineIs w none 0 3 (0 ∷ 2 ∷ []) (negsuc 0, pos 1, pos 1)
   pub refused : NoLine w (shut_after w (Shut 1 ∷ [])) 0 2
-  pub row_0 : Row_is w (shut_after w (Shut 1 ∷ [])) 0 (0xD0 ∷ []) 3
-  pub row_1 : Row_is w (shut_after w (Shut 1 ∷ [])) 1 (0xF0 ∷ []) 4
-  pub row_2 : Row_is w (shut_after w (Shut 1 ∷ [])) 2 (0x70 ∷ []) 3
-  pub row_3 : Row_is w (shut_after w (Shut 1 ∷ [])) 3 (0xF0 ∷ []) 4
+  pub row_0 : RowIs w (shut_after w (Shut 1 ∷ [])) 0 (0xD0 ∷ []) 3
+  pub row_1 : RowIs w (shut_after w (Shut 1 ∷ [])) 1 (0xF0 ∷ []) 4
+  pub row_2 : RowIs w (shut_after w (Shut 1 ∷ [])) 2 (0x70 ∷ []) 3
+  pub row_3 : RowIs w (shut_after w (Shut 1 ∷ [])) 3 (0xF0 ∷ []) 4
 
 pub record CorridorCases (w v : World) : Type 0 where
-  pub exact_row : Row_is w none 0 (0xC3 ∷ 0x80 ∷ []) 5
-  pub wedge_row : Row_is v none 0 (0xC3 ∷ 0xC0 ∷ []) 6
+  pub exact_row : RowIs w none 0 (0xC3 ∷ 0x80 ∷ []) 5
+  pub wedge_row : RowIs v none 0 (0xC3 ∷ 0xC0 ∷ []) 6
   pub witness : LineIs w none 0 8 (0 ∷ 1 ∷ 2 ∷ 3 ∷ []) (negsuc 1, pos 4, negsuc 3)
   pub refused : NoLine w none 0 9
   pub lost : Counts w.rooms (Lost w (Fill 5 ∷ Fill 0 ∷ []) (Shut 4)) 1
