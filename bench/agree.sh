@@ -1,6 +1,6 @@
 #!/usr/bin/env bash
 # Sets the proved driver against the plain one, against answers worked by hand and against Netpbm: bench/agree.sh, from the
-# repository's root, after `rt run drill`. Needs cargo, python3 and Debian's netpbm. Takes about two minutes.
+# repository's root, after the driver was built (`bench/build.sh`). Needs cargo, python3 and Debian's netpbm. Takes about two minutes.
 set -eu
 proved=crates/drill/out/drill
 plain=bench/plain/target/release/plain

@@ -1,5 +1,5 @@
 #!/usr/bin/env bash
-# How long the driver takes to read each plan: bench/read_plans.sh, from the repository's root, after `rt run drill`.
+# How long the driver takes to read each plan: bench/read_plans.sh, from the repository's root, after the driver was built (`bench/build.sh`).
 set -eu
 plans=$(mktemp -d)
 trap 'rm -rf "$plans"' EXIT
