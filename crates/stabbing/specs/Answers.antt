@@ -13,6 +13,10 @@ module _ {X : Type 0} where
   under true o x e = (refl, e)
   under false o x e = not_some x e
 
+  -- a line that both let through is the back's
+  pub backs : (b : Bool) (o : Option X) (x : X) → cond b o None ≡ Some x → o ≡ Some x
+  backs b o x e = (under b o x e).1
+
   pub some_value : (o : Option X) → is_some o ≡ true → (x : X) × (o ≡ Some x)
   some_value None e = absurd (false≢true e)
   some_value (Some x) e = (x, refl)

@@ -4,7 +4,6 @@ pub mod Memory
 pub mod Arrows
 pub mod Spans
 pub mod Refutation
-pub mod BothSharpLemmas
 pub mod Found
 pub mod Threes
 pub mod Recall

@@ -1,7 +1,7 @@
 // Both: a layer over two stabbers, that lets through what both let through.
 ghost use Rattle.std.specs.Prelude.{◌&&◌, if◌then◌else◌, None};
 ghost use Rattle.std.proofs.Common.{rules};
-ghost use Rattle.stabbing.specs.BothSharpLemmas.{backs};
+ghost use Rattle.stabbing.specs.Answers.{backs};
 
 use crate::stabber::{Sharp, Stabber};
 use plane::quad::Quad;
