@@ -2,7 +2,7 @@
 ghost use Rattle.std.specs.Prelude.{◌≡◌, ◌+◌, ◌^◌, ◌<◌, length, IfOk, None, Ok};
 ghost use Rattle.text.specs.Turns.{begun, extended, told, state_after, at_after, Sound};
 ghost use Rattle.text.specs.declared.lexing.State.TheVariants.{Between};
-ghost use Rattle.text.specs.Marks.{marked, expected, Found};
+ghost use Rattle.text.specs.Marks.{marked, expected, over, Found};
 ghost use Rattle.text.specs.Numerals.{Settled};
 ghost use Rattle.text.specs.Lexing.{text_of, at_of, state_of, turned, finished, rest_of, numbered};
 
@@ -173,6 +173,17 @@ impl<'a> Lexer<'a> {
             }
         }
         None
+    }
+
+    // Only white space may be left.
+    pub fn expect_end(&mut self) -> Result<(), Fault>
+        ensures answer { result ≡ over (text_of self.old) (at_of self.old) }
+        ensures same { text_of self.new ≡ text_of self.old }
+    {
+        match self.mark() {
+            None => Ok(()),
+            Some((_, place)) => Err(Fault::new(Ground::Over, place)),
+        }
     }
 
     // The next byte that is no white space, with its place, in a text that may not end before it.
