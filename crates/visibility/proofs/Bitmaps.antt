@@ -1,29 +1,21 @@
 -- The rows of a bitmap, one behind the other.
-use Rattle.std.proofs.Common.{◌≡◌, ℕ, zero, suc, ◌+◌, ◌-◌, ◌*◌, ◌/◌, ◌%◌, ◌<◌, ◌≤◌, Bool, true, false, ◌&&◌, ltb, List, [], ◌∷◌, ◌++◌, length, get_or, take, drop, Some, None, decimal, sym, refl, ap, ◌∙◌, subst, ⊎_elim, mul-le-mul_right, suc-mul, add-mul, one-mul, zero-mul, add-one, arith}
+use Rattle.std.proofs.Common.{◌≡◌, IsTrue, ◌↔◌, ℕ, zero, suc, ◌+◌, ◌-◌, ◌*◌, ◌/◌, ◌%◌, ◌<◌, ◌≤◌, Bool, true, false, ◌&&◌, ltb, List, [], ◌∷◌, ◌++◌, length, get_or, take, drop, Some, None, decimal, sym, refl, ap, ◌∙◌, subst, ⊎_elim, mul-le-mul_right, suc-mul, add-mul, one-mul, zero-mul, add-one, arith}
 use borrow.Rule.Slice.PartMut.{put_mid, post_of}
-use Rattle.std.specs.List.{AllByRecursion}
+use Rattle.std.specs.List.{AllByRecursion, All}
 use Rattle.std.proofs.lemmas.List.FromFn.{length-map-range_with_len, get_or-map-range_with_len}
 use Rattle.std.proofs.ByRecursion.{All-append, All-from_get_or, All-weaker}
-use Rattle.std.proofs.lemmas.List.{append_assoc, drop_at, drop-drop, length-append, get_or_append_left, get_or-append_right, take_at}
+use Rattle.std.proofs.lemmas.List.{append_assoc, drop_at, drop-drop, length-append, get_or_append_left, get_or-append_right, get_or-take, get_or_default, length-take, take_at}
 use Rattle.std.proofs.lemmas.Slice.{take-put_mid}
-use Rattle.std.proofs.lemmas.Bool.{cases_eq, and_right, cond-true, cond-false, lt-ltb, le-ltb}
+use Rattle.std.proofs.lemmas.Bool.{cases_eq, cases_Bool, false≢true, and_from, and_right, cond-true, cond-false, lt-ltb, le-ltb}
 use Rattle.visibility.specs.declared.refusal.Refusal.TheVariants.{SpaceTooShort}
 use Rattle.visibility.specs.Bits.{bit}
 use Rattle.visibility.specs.Bitmaps.{every, below, width, octet, packed, pixels, heading, bitmap, no_bitmap, Pbm}
 use Rattle.visibility.specs.Decimals.{Digit}
-use Rattle.visibility.specs.Sets.{Numbers}
+use Rattle.visibility.specs.Sets.{Numbers, marks}
 use Rattle.visibility.specs.States.{State}
 use Rattle.visibility.specs.Worlds.{World}
 use Rattle.visibility.proofs.Binary.{bit_binary, binary_below}
 use Rattle.visibility.proofs.Decimals.{numeral_decimal}
-
-pub every_none : (s : Numbers) → every 0 s ≡ true
-unfolding every
-every_none s = refl
-
-pub every_more : (a : ℕ) (s : Numbers) → every a s ≡ true → s a ≡ true → every (a + 1) s ≡ true
-unfolding every
-every_more a s front here = ap (λ (n : ℕ). every n s) (add-one a) ∙ ap (λ (b : Bool). b && s a) front ∙ here
 
 pub every_not : (n a : ℕ) (s : Numbers) → a < n → s a ≡ false → every n s ≡ false
 unfolding every
@@ -33,6 +25,33 @@ every_not (suc n) a s l h =
     (λ (e : a ≡ n). and_right (every n s) (s n) (subst (λ (x : ℕ). s x ≡ false) e h))
     (λ (ne : a ≡ n → ⊥). ap (λ (b : Bool). b && s n) (every_not n a s (omega arith) h))
     (cases_eq a n)
+
+pub every_all : (n : ℕ) (s : Numbers) → ((x : ℕ) → x < n → s x ≡ true) → every n s ≡ true
+unfolding every
+every_all zero s h = refl
+every_all (suc n) s h = and_from _ _ (every_all n s (λ x l. h x (omega arith))) (h n (omega arith))
+
+every_at : (n : ℕ) (s : Numbers) → every n s ≡ true → (x : ℕ) → x < n → s x ≡ true
+every_at n s e x l =
+    ⊎_elim
+    (λ (t : s x ≡ true). t)
+    (λ (f : s x ≡ false). absurd (false≢true (sym (every_not n x s l f) ∙ e)))
+    (cases_Bool (s x))
+
+-- what a test of the first n marks gives
+pub every_marked :
+    (n : ℕ) (xs : List Bool) (b : Bool) → n ≤ length xs → IsTrue b ↔ All (λ x. IsTrue x) (take n xs) → b ≡ every n (marks xs)
+every_marked n xs b l h =
+    let at : (k : ℕ) (d : Bool) → k < n → get_or (take n xs) k d ≡ marks xs k =
+    λ k d m. get_or-take n xs k d m ∙ get_or_default xs k d false (omega arith) in
+    ⊎_elim
+    (λ (t : every n (marks xs) ≡ true). h.1 (λ k d m. at k d (omega (arith, length-take n xs)) ∙ every_at n (marks xs) t k (omega (arith, length-take n xs))) ∙ sym t)
+    (λ (f : every n (marks xs) ≡ false).
+    ⊎_elim
+    (λ (y : b ≡ true). absurd (false≢true (sym f ∙ every_all n (marks xs) (λ k m. sym (at k false m) ∙ h.0 y k false (omega (arith, length-take n xs))))))
+    (λ (no : b ≡ false). no ∙ sym f)
+    (cases_Bool b))
+    (cases_Bool (every n (marks xs)))
 
 length_packed : (n : ℕ) (s : Numbers) → length (packed n s) ≡ width n
 unfolding packed

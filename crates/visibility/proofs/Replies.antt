@@ -1,7 +1,7 @@
 -- What a witness call and a bitmap answer follows from the history.
-use Rattle.std.proofs.Common.{◌≡◌, ℕ, zero, suc, ◌<◌, ◌≤◌, true, false, List, [], ◌∷◌, ◌++◌, length, take, drop, IfOk, Some, None, Ok, Err, Option, Result, sym, refl, ap, ◌∙◌, subst, ⊎_elim, arith, MatchResult}
+use Rattle.std.proofs.Common.{◌≡◌, ℕ, ◌<◌, ◌≤◌, true, false, List, [], ◌∷◌, ◌++◌, length, take, drop, IfOk, Some, None, Ok, Err, Option, Result, sym, refl, ap, ◌∙◌, subst, ⊎_elim, arith, MatchResult}
 use Rattle.std.proofs.lemmas.List.{drop_at}
-use Rattle.std.proofs.lemmas.Bool.{cases_Bool, cond-false, and_from}
+use Rattle.std.proofs.lemmas.Bool.{cases_Bool, cond-false}
 use Rattle.plane.specs.declared.quad.Quad.{Quad}
 use Rattle.plane.specs.Limits.{Path}
 use Rattle.plane.specs.Separation.{Coefficients, Stabbed}
@@ -23,15 +23,10 @@ use Rattle.visibility.specs.States.{State, ByGround}
 use Rattle.visibility.specs.Walks.{Lined}
 use Rattle.visibility.specs.Witnesses.{FirstOf, no_witness, Witnessed}
 use Rattle.visibility.specs.Worlds.{World, Inside}
-use Rattle.visibility.proofs.Bitmaps.{every_not, bitmap_size, bitmap_short, bitmap_granted}
+use Rattle.visibility.proofs.Bitmaps.{every_all, every_not, bitmap_size, bitmap_short, bitmap_granted}
 use Rattle.visibility.proofs.Grounds.{witness_missing, witness_same, witness_short, witness_free}
 use Rattle.visibility.proofs.Histories.{was_refused, was_granted, ok_of}
 use Rattle.visibility.proofs.Paths.{walk_path, lined_true}
-
-every_all : (n : ℕ) (s : Numbers) → ((x : ℕ) → x < n → s x ≡ true) → every n s ≡ true
-unfolding every
-every_all zero s h = refl
-every_all (suc n) s h = and_from _ _ (every_all n s (λ x l. h x (omega arith))) (h n (omega arith))
 
 -- what is replied where no space is lent
 pub answered :

@@ -7,7 +7,5 @@ pub(crate) fn copy(from: &[usize], space: &mut [usize])
     ensures { space.new ≡ over from.now space.old }
 {
     let count = from.len().min(space.len());
-    for i in 0..count {
-        space[i] = from[i];
-    }
+    space[..count].copy_from_slice(&from[..count]);
 }

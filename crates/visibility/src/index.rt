@@ -52,8 +52,7 @@ impl Index {
         let near = for_doorways();
         let far = for_doorways();
         let mut index = Index { first, near, far };
-        for i in 0..count {
-            let k = count - 1 - i;
+        for k in (0..count).rev() {
             if let Some(doorway) = map.doorway(k) {
                 index.enter(k, &doorway);
             }

@@ -81,8 +81,8 @@ impl Row {
         requires { (n ≤ most_rooms) × (length part.old ≡ width n) }
         ensures { part.new ≡ packed n (shown self.now.bytes) }
     {
-        for k in 0..part.len() {
-            part[k] = self.octet(n, k);
+        for (k, byte) in part.iter_mut().enumerate() {
+            *byte = self.octet(n, k);
         }
     }
 }

@@ -87,12 +87,7 @@ impl Rows {
         requires { n ≤ most_rooms }
         ensures { result ≡ every n (marks self.now.filled) }
     {
-        for a in 0..n {
-            if !self.filled[a] {
-                return false;
-            }
-        }
-        true
+        self.filled[..n].iter().all(|filled| *filled)
     }
 
     // Writes the first n rows of n pixels one behind the other, each into its own part of the space.
@@ -101,9 +96,9 @@ impl Rows {
         ensures { space.new ≡ pixels n n (sight self.now.rows) }
     {
         let width = (n + 7) / 8;
-        for a in 0..n {
+        for (a, row) in self.rows[..n].iter().enumerate() {
             let at = a * width;
-            self.rows[a].write(n, &mut space[at..at + width]);
+            row.write(n, &mut space[at..at + width]);
         }
     }
 }

@@ -1,14 +1,10 @@
-use Rattle.std.proofs.Common.{sym}
-use Rattle.visibility.specs.Sets.{marks}
-use Rattle.visibility.proofs.Bitmaps.{every_none, every_more, every_not}
+use Rattle.std.proofs.Common.{take, IsTrue, ◌↔◌, rules}
+use Rattle.std.specs.List.{All}
+use Rattle.visibility.proofs.Bitmaps.{every_marked}
 use Rattle.visibility.proofs.rows.Rows.all_filled.Goals as goal
 
-pub loop-a-init : goal.loop-a-init
-loop-a-init c = every_none (marks c.args.self.now.filled)
-
-pub loop-a-preserved : goal.loop-a-preserved
-loop-a-preserved c = every_more c.loop-a.a (marks c.args.self.now.filled) c.loop-a.invariant c.if-not-self-a.false
-
-pub returns-then-not-self-a : goal.returns-then-not-self-a
-returns-then-not-self-a c =
-    sym (every_not c.args.n c.loop-a.a (marks c.args.self.now.filled) c.loop-a-test.true c.if-not-self-a.true)
+pub returns : goal.returns
+returns c =
+    let filled = c.args.self.now.filled in
+    let tested : IsTrue c.all.result ↔ All (λ b. IsTrue b) (take c.args.n filled) = search rules in
+    every_marked c.args.n filled c.all.result (search rules) tested
