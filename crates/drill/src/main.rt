@@ -14,7 +14,7 @@ use orders::order;
 use pile::Pile;
 use plan::{Plan, load};
 use report::report;
-use sightlines::order::Order;
+use visibility::order::Order;
 use std::alloc::{AllocError, Global};
 use std::env;
 use std::io::{Read, Write};

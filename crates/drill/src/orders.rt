@@ -1,6 +1,6 @@
 // Orders by their words.
-use sightlines::call::Call;
-use sightlines::order::Order;
+use visibility::call::Call;
+use visibility::order::Order;
 use std::alloc::{AllocError, Global};
 
 // The longest bitmap is that of 256 rooms.

@@ -8,7 +8,8 @@ use Rattle.visibility.specs.declared.refusal.Refusal.TheVariants.{NoSuchRoom, No
 use Rattle.visibility.specs.declared.call.Call.{Call}
 use Rattle.visibility.specs.declared.call.Call.TheVariants.{Fill, Shows}
 use Rattle.visibility.specs.Answers.{counted, sighted}
-use Rattle.visibility.specs.Histories.{turns, shut_after, SeenAfter, Apart, Current, Counts, Lost, TurnAnswered, FillAnswered, ShowsAnswered, Stands}
+use Rattle.visibility.specs.Histories.{turns, shut_after, SeenAfter, Apart, Current, Counts, Lost, Stands}
+use Rattle.visibility.specs.Replies.{TurnAnswered, FillAnswered, ShowsAnswered}
 use Rattle.visibility.specs.Sets.{Numbers, both, Exactly}
 use Rattle.visibility.specs.Sights.{touches}
 use Rattle.visibility.specs.States.{State, ByGround, place, no_room, no_sight, no_turn, Fills, Turns}
@@ -19,19 +20,19 @@ use Rattle.visibility.proofs.States.{fill_refused, turn_missing, turn_already, t
 
 -- what a call did, by its ground
 module _ {X : Type 0} (o : Option Refusal) (r : Result X Refusal) (s t : State) (P : X → Type 0) (h : ByGround o r s t P) where
-  was_refused : (e : Refusal) → o ≡ Some e → (r ≡ Err e) × (t ≡ s)
+  pub was_refused : (e : Refusal) → o ≡ Some e → (r ≡ Err e) × (t ≡ s)
   was_refused e q = subst (λ (v : Option Refusal). ByGround v r s t P) q h
 
-  was_granted : o ≡ None → MatchResult r P (λ _. ⊥)
+  pub was_granted : o ≡ None → MatchResult r P (λ _. ⊥)
   was_granted q = subst (λ (v : Option Refusal). ByGround v r s t P) q h
 
-ok_of : {X : Type 0} (r : Result X Refusal) (P : X → Type 0) → MatchResult r P (λ _. ⊥) → (x : X) × (r ≡ Ok x) × P x
+pub ok_of : {X : Type 0} (r : Result X Refusal) (P : X → Type 0) → MatchResult r P (λ _. ⊥) → (x : X) × (r ≡ Ok x) × P x
 ok_of (Ok x) P h = (x, refl, h)
 ok_of (Err e) P h = absurd h
 
 module _ (w : World) (h : List Call) where
   -- a call that leaves all as it was
-  same_stands :
+  pub same_stands :
       (c : Call) (s : State) → Stands w h s → shut_after w (c ∷ h) ≡ shut_after w h
       → ((a : ℕ) → a < w.rooms → (Current w (c ∷ h) a → Current w h a) × (Current w h a → Current w (c ∷ h) a))
       → Stands w (c ∷ h) s

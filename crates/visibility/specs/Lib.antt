@@ -3,6 +3,11 @@ pub mod Sets
 pub mod Worlds
 pub mod Walks
 pub mod Steps
+pub mod Trips
+pub mod Indexes
+pub mod Copying
+pub mod Quests
+pub mod Witnesses
 pub mod Questions
 pub mod Bits
 pub mod Refusals
@@ -10,4 +15,9 @@ pub mod Sights
 pub mod States
 pub mod Answers
 pub mod Histories
+pub mod Replies
+pub mod Calls
 pub mod Orders
+pub mod Portals
+pub mod Decimals
+pub mod Bitmaps
