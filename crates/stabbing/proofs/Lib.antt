@@ -1,3 +1,4 @@
+pub mod Turns
 pub mod Unstabbed
 pub mod HalfPlanes
 pub mod Spokes

@@ -8,7 +8,5 @@ pub mod exact;
 pub mod memory;
 mod refutation;
 mod span;
-mod spans;
 pub mod stabber;
-mod turns;
 pub mod wedge;
