@@ -3,4 +3,4 @@ pub mod Unstabbed
 pub mod HalfPlanes
 pub mod Spokes
 pub mod Hopeless
-pub mod Starts
+pub mod Asks

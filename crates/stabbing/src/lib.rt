@@ -3,7 +3,7 @@
 
 mod arrow;
 pub mod both;
-mod ends;
+mod doorways;
 pub mod exact;
 pub mod memory;
 mod refutation;
