@@ -1,5 +1,6 @@
+pub mod Turns
 pub mod Unstabbed
 pub mod HalfPlanes
 pub mod Spokes
 pub mod Hopeless
-pub mod Starts
+pub mod Asks

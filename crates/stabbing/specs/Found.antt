@@ -98,17 +98,20 @@ exact_front p r e = let h = (exact_decides (p ++ r)).0 e in exact_has p (path_fr
 pub decides_as_exact : {X : Type 0} (f : X → Coefficients) (o : Option X) (p : List Quad) → option_map f o ≡ exact_line p → Decides (is_some o) (Path p × Stabbed p)
 decides_as_exact f o p e = Decides-at _ _ (some_mapped f o ∙ ap is_some e) (exact_decides p)
 
--- Exact's answer by cases: no path, the empty path, any other path
+-- Exact's answer by cases: no path, a path
 pub exact_no_path : (p : List Quad) → is_path p ≡ false → exact_line p ≡ None
 unfolding exact_line
 exact_no_path p e = rw e refl
 
-pub exact_empty : (p : List Quad) → is_path p ≡ true → length p ≡ 0 → exact_line p ≡ Some (pos 0, pos 1, pos 0)
+pub exact_path : (p : List Quad) → is_path p ≡ true → exact_line p ≡ line_through p
 unfolding exact_line
-exact_empty [] e h = refl
-exact_empty (q ∷ p) e h = absurd (omega arith)
+exact_path p e = rw e refl
 
-pub exact_other : (p : List Quad) → is_path p ≡ true → (length p ≡ 0 → ⊥) → exact_line p ≡ first_line p
-unfolding exact_line
-exact_other [] e h = absurd (h refl)
-exact_other (q ∷ p) e h = rw e refl
+-- the empty path, any other path
+pub line_empty : (p : List Quad) → length p ≡ 0 → line_through p ≡ Some (pos 0, pos 1, pos 0)
+line_empty [] h = refl
+line_empty (q ∷ p) h = absurd (omega arith)
+
+pub line_other : (p : List Quad) → (length p ≡ 0 → ⊥) → line_through p ≡ first_line p
+line_other [] h = absurd (h refl)
+line_other (q ∷ p) h = refl

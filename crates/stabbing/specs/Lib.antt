@@ -4,10 +4,10 @@ pub mod Memory
 pub mod Arrows
 pub mod Spans
 pub mod Refutation
+pub mod Asked
 pub mod Found
 pub mod Threes
 pub mod Recall
-pub mod Scan
 pub mod Tries
 pub mod Limited
 pub mod Fronts

@@ -3,12 +3,10 @@
 
 mod arrow;
 pub mod both;
-mod ends;
+mod doorways;
 pub mod exact;
 pub mod memory;
 mod refutation;
 mod span;
-mod spans;
 pub mod stabber;
-mod turns;
 pub mod wedge;

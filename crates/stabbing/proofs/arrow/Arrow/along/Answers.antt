@@ -1,19 +1,14 @@
-use Rattle.std.proofs.Common.{◌≡◌, ◌+ℤ◌, ◌*ℤ◌, ◌∙◌, ap₂, w32, SFits, rules}
-use Rattle.std.proofs.lemmas.Int.{to_z-of_z}
+use Rattle.stabbing.proofs.Turns.{sum_fits, sum_read}
 use Rattle.stabbing.proofs.arrow.Arrow.along.Goals as goal
+
+pub overflow_add-result : goal.overflow_add-result
+overflow_add-result c =
+    let v = c.args.self in
+    let w = c.args.w in
+    sum_fits v.x w.x v.y w.y v.x_within w.x_within v.y_within w.y_within
 
 pub returns : goal.returns
 returns c =
     let v = c.args.self in
     let w = c.args.w in
-    let vx : SFits w32 v.x = search rules in
-    let vy : SFits w32 v.y = search rules in
-    let wx : SFits w32 w.x = search rules in
-    let wy : SFits w32 w.y = search rules in
-    let m : c.product.result ≡ v.x *ℤ w.x = simp to_z-of_z at c.product.ensures.value in
-    let n : c.product-2.result ≡ v.y *ℤ w.y = simp to_z-of_z at c.product-2.ensures.value in
-    let fm : SFits w32 c.product.result = search rules in
-    let fn : SFits w32 c.product-2.result = search rules in
-    let r : c.sum.result ≡ v.x *ℤ w.x +ℤ v.y *ℤ w.y = simp to_z-of_z at c.sum.ensures ∙ ap₂ ◌+ℤ◌ m n in
-    let fr : SFits w32 c.sum.result = search rules in
-    to_z-of_z w32 _ fr ∙ r
+    sum_read v.x w.x v.y w.y v.x_within w.x_within v.y_within w.y_within
