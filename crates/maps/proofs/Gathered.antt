@@ -1,9 +1,9 @@
 -- Doorways made one by one, and what they then join.
-use Rattle.std.specs.Prelude.{◌≡◌, ℕ, ◌+◌, ◌<◌, true, ◌&&◌, List, [], ◌∷◌, ◌++◌, map, length, take, nat_lt, slice_index_or, slice_set, refl}
+use Rattle.std.specs.Prelude.{◌≡◌, ℕ, ◌+◌, ◌<◌, true, ◌&&◌, List, [], ◌∷◌, ◌++◌, map, length, take, nat_lt, slice_index_or, refl}
 use Rattle.std.proofs.Common.{sym, ap, subst, ◌∙◌}
 use Rattle.std.specs.List.{AllByRecursion}
 use Rattle.std.proofs.ByRecursion.{All-more}
-use Rattle.std.proofs.lemmas.List.{take_more, take_more_set, map-append}
+use Rattle.std.proofs.lemmas.List.{take_more, map-append}
 use Rattle.std.proofs.lemmas.Bool.{and_from, and_parts, lt-ltb}
 use Rattle.maps.specs.declared.doorway.Doorway.{Doorway}
 use Rattle.maps.specs.declared.passage.Passage.{Passage}
@@ -19,17 +19,17 @@ joined n d a b =
     let c = d.crossing in
     (a, b, d.apart, ((c.left.x_within, c.left.y_within), (c.right.x_within, c.right.y_within), λ e. c.apart (ap (λ q. q.0) e) (ap (λ q. q.1) e)))
 
-module _ (n k : ℕ) (from : List Passage) (into : List Doorway) (z : Passage) (d : Doorway) where
+module _ (n k : ℕ) (from : List Passage) (ds : List Doorway) (z : Passage) (d : Doorway) where
   pub record Gathered : Type 0 where
     pub all : AllByRecursion (Joins n) (take (k + 1) from)
-    pub same : map plain (take (k + 1) (slice_set into k d)) ≡ take (k + 1) from
-    pub inside : within n (take (k + 1) (slice_set into k d)) ≡ true
+    pub same : map plain (ds ++ d ∷ []) ≡ take (k + 1) from
+    pub inside : within n (ds ++ d ∷ []) ≡ true
 
-  pub gathered : k < length from → k < length into → AllByRecursion (Joins n) (take k from) → map plain (take k into) ≡ take k from → within n (take k into) ≡ true
+  pub gathered : k < length from → AllByRecursion (Joins n) (take k from) → map plain ds ≡ take k from → within n ds ≡ true
       → plain d ≡ slice_index_or from k z → d.near < n → d.far < n → Gathered
-  gathered f i all same inside is a b =
+  gathered f all same inside is a b =
       record {
         all = All-more (Joins n) from k z f all (subst (Joins n) is (joined n d a b));
-        same = ap (map plain) (take_more_set into k d i) ∙ map-append plain (take k into) (d ∷ []) ∙ (λ j. same j ++ is j ∷ []) ∙ sym (take_more from k z f);
-        inside = ap (within n) (take_more_set into k d i) ∙ within_push n (take k into) d inside a b;
+        same = map-append plain ds (d ∷ []) ∙ (λ j. same j ++ is j ∷ []) ∙ sym (take_more from k z f);
+        inside = within_push n ds d inside a b;
       }

@@ -4,5 +4,6 @@
 pub mod doorway;
 pub mod gather;
 pub mod listed;
+pub mod lists;
 pub mod map;
 pub mod passage;

@@ -1,35 +1,35 @@
 // A map that holds a list of doorways.
-ghost use Rattle.std.specs.Prelude.{◌≡◌, ◌≤◌, true, length, take};
+ghost use Rattle.std.specs.Prelude.{◌≡◌, ◌≤◌, true, length};
 ghost use Rattle.maps.specs.Passages.{within};
-ghost use Rattle.std.proofs.Common.{arith};
-ghost use Rattle.std.proofs.lemmas.List.{length-take};
 ghost use Rattle.maps.specs.Inside.{within_all};
 
 use crate::doorway::Doorway;
 use crate::map::Map;
+use arrayvec::ArrayVec;
+
+// At most this many doorways.
+pub(crate) const MOST_DOORWAYS: usize = 2048;
 
 #[derive(Drop)]
 pub struct Listed {
     pub(crate) rooms: usize,
-    pub(crate) count: usize,
-    pub(crate) held: [Doorway; 2048],
+    pub(crate) held: ArrayVec<Doorway, MOST_DOORWAYS>,
     ghost inhabited: { 1 ≤ rooms },
     ghost bounded: { rooms ≤ 256 },
-    ghost few: { count ≤ 2048 },
-    ghost whole: { count ≤ length held },
-    ghost inside: { within rooms (take count held) ≡ true },
+    ghost few: { length held.items ≤ 2048 },
+    ghost inside: { within rooms held.items ≡ true },
 }
 
 impl Map for Listed {
     ghost rooms = { λ m. m.rooms };
 
-    ghost doorways = { λ m. take m.count m.held };
+    ghost doorways = { λ m. m.held.items };
 
     ghost inhabited = { λ m. m.inhabited };
 
     ghost bounded = { λ m. m.bounded };
 
-    ghost few = { λ m. omega (arith, length-take m.count m.held, m.few) };
+    ghost few = { λ m. m.few };
 
     ghost inside = { λ m. within_all m.rooms _ m.inside };
 
@@ -38,14 +38,10 @@ impl Map for Listed {
     }
 
     fn doorway_count(&self) -> usize {
-        self.count
+        self.held.len()
     }
 
     fn doorway(&self, k: usize) -> Option<Doorway> {
-        if k < self.count {
-            Some(self.held[k])
-        } else {
-            None
-        }
+        self.held.as_slice().get(k).copied()
     }
 }

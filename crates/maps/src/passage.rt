@@ -8,3 +8,15 @@ pub struct Passage {
     pub right_x: i32,
     pub right_y: i32,
 }
+
+impl Passage {
+    // No doorway.
+    pub const NONE: Passage = Passage {
+        near: 0,
+        far: 0,
+        left_x: 0,
+        left_y: 0,
+        right_x: 0,
+        right_y: 0,
+    };
+}

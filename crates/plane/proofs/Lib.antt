@@ -4,7 +4,6 @@ pub mod Directions
 pub mod Clockwise
 pub mod TwoPosts
 pub mod Products
-pub mod First
 pub mod Tests
 pub mod Through
 pub mod StoredLine

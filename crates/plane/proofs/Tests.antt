@@ -1,15 +1,14 @@
 -- Each test of specs/Tests.antt decides its condition.
-use Rattle.std.proofs.Common.{◌≡◌, ℕ, suc, ◌≤◌, Bool, true, false, cond, not, ◌&&◌, leb, List, [], ◌∷◌, length, ℤ, pos, negsuc, ◌≤ℤ◌, is_some, Some, None, Decides, Option, sym, refl, ap, ap₂, arith}
+use Rattle.std.proofs.Common.{◌≡◌, ℕ, ◌+◌, ◌≤◌, Bool, true, false, cond, not, ◌&&◌, leb, List, [], ◌∷◌, length, ℤ, pos, negsuc, ◌≤ℤ◌, is_some, Some, Decides, Option, sym, refl, ap, ap₂, arith}
 use borrow.Author.Differences.{true_is_le, le_out}
 use lib.IntN.{pos-ne-negsuc}
 use lib.Signed.{le_z}
-use Rattle.std.specs.Option.{option_map}
+use Rattle.std.specs.List.{list_all, position_from}
 use Rattle.std.proofs.lemmas.Int.{ints}
 use Rattle.std.proofs.lemmas.Bool.{leb-true, le-leb, eqb-true, eq-eqb, false≢true}
 use Rattle.std.proofs.lemmas.Bool.Decides.{Decides-and, Decides-not, Decides-like}
 use Rattle.std.proofs.ByRecursion.{Decides-by_and}
 use Rattle.plane.specs.declared.quad.Quad.{Quad}
-use Rattle.plane.specs.First.{first_place}
 use Rattle.plane.specs.Limits.{PostAt, Crosses, Path}
 use Rattle.plane.specs.Separation.{Point, Coefficients, Parts, Separates, value, left, right}
 use Rattle.plane.specs.Tests.{parts, separates, same_number, same_point, is_post, crosses, all_cross, is_path}
@@ -56,13 +55,11 @@ crosses_decides q =
 pub is_path_decides : (p : List Quad) → Decides (is_path p) (Path p)
 is_path_decides p = Decides-and _ _ (decides_leb (length p) 511) (Decides-by_and crosses Crosses all_cross crosses_decides refl (λ _ _. refl) p)
 
--- one crossing more, before those that p has
-one_more : (b s : Bool) (o : Option ℕ) → is_some o ≡ not s → is_some (cond (not b) (Some 0) (option_map suc o)) ≡ not (b && s)
-one_more true s None h = h
-one_more true s (Some k) h = h
-one_more false s o h = refl
-
--- a line separates a path exactly when no crossing sits wrongly
-pub wrong_somewhere : (l : Coefficients) (p : List Quad) → is_some (first_place (λ q. not (parts l q)) p) ≡ not (separates l p)
-wrong_somewhere l [] = refl
-wrong_somewhere l (q ∷ p) = one_more (parts l q) (separates l p) _ (wrong_somewhere l p)
+-- there is a place that fails a test exactly when not all pass it
+pub fails_somewhere : {X : Type 0} (t : X → Bool) (i : ℕ) (xs : List X) → is_some (position_from (λ x. not (t x)) i xs) ≡ not (list_all t xs)
+fails_somewhere t i [] = refl
+fails_somewhere t i (x ∷ xs) = one_more (t x) (list_all t xs) _ (fails_somewhere t (i + 1) xs)
+  where
+    one_more : (b s : Bool) (o : Option ℕ) → is_some o ≡ not s → is_some (cond (not b) (Some i) o) ≡ not (b && s)
+    one_more true s o h = h
+    one_more false s o h = refl

@@ -8,7 +8,8 @@
 --   crosses q           whether the four numbers are a crossing
 --   all_cross p         whether each element of p is one
 --   is_path p           whether the list is a path
-use Rattle.std.specs.Prelude.{Bool, true, false, not, ◌&&◌, List, [], ◌∷◌, length, ℤ, pos, negsuc, ◌==◌, int_le, int_lt, nat_le, unsigned_abs}
+use Rattle.std.specs.Prelude.{Bool, false, not, ◌&&◌, List, length, ℤ, pos, negsuc, ◌==◌, int_le, int_lt, nat_le, unsigned_abs}
+use Rattle.std.specs.List.{list_all}
 use Rattle.plane.specs.declared.quad.Quad.{Quad}
 use Rattle.plane.specs.Separation.{Point, Coefficients, value, left, right}
 
@@ -16,8 +17,7 @@ abbrev pub parts : Coefficients → Quad → Bool
 parts l q = int_le (pos 0) (value l (left q)) && int_le (value l (right q)) (pos 0)
 
 abbrev pub separates : Coefficients → List Quad → Bool
-separates l [] = true
-separates l (q ∷ p) = parts l q && separates l p
+separates l p = list_all (parts l) p
 
 abbrev pub strictly_left : Coefficients → Point → Bool
 strictly_left l p = int_lt (pos 0) (value l p)
@@ -38,8 +38,7 @@ abbrev pub crosses : Quad → Bool
 crosses q = (is_post (left q) && is_post (right q)) && not (same_point (left q) (right q))
 
 abbrev pub all_cross : List Quad → Bool
-all_cross [] = true
-all_cross (q ∷ p) = crosses q && all_cross p
+all_cross p = list_all crosses p
 
 abbrev pub is_path : List Quad → Bool
 is_path p = nat_le (length p) 511 && all_cross p

@@ -39,10 +39,5 @@ impl Sided for Corner {
 pub fn first_wrong<E: Sided>(line: &Line, elements: &[E]) -> Option<usize>
     ensures { result ≡ first_place (λ e. not (E.Sided.well e (coefficients line.now))) elements.now }
 {
-    for (k, element) in elements.iter().enumerate() {
-        if !element.sits_well(line) {
-            return Some(k);
-        }
-    }
-    None
+    elements.iter().position(|element| !element.sits_well(line))
 }

@@ -29,7 +29,7 @@ impl Crossing {
     pub fn new(left: Post, right: Post) -> Result<Crossing, Refusal>
         ensures { MatchResult result (λ c. (c.left ≡ left) × (c.right ≡ right)) (λ _. place left ≡ place right) }
     {
-        if left.x == right.x && left.y == right.y {
+        if left == right {
             Err(Refusal::NoSuchShape)
         } else {
             Ok(Crossing { left, right })

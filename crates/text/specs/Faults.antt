@@ -1,11 +1,19 @@
 -- What a refusal says.
+--   rank l        the number of the layer l: 1 the text, 2 the layout, 3 the map
 --   number_of g   the number of the ground g
---   layer_of g    the layer that finds it: 1 the text, 2 the layout, 3 the map
+--   layer_of g    the number of the layer that finds it
 --   fault g p     the fault of ground g at the place p
 use Rattle.std.specs.Prelude.{ℕ}
 use Rattle.text.specs.declared.faults.Fault.{Fault}
+use Rattle.text.specs.declared.faults.Layer.{Layer}
+use Rattle.text.specs.declared.faults.Layer.TheVariants.{Text, Layout, Map}
 use Rattle.text.specs.declared.faults.Ground.{Ground}
 use Rattle.text.specs.declared.faults.Ground.TheVariants.{Space, Stray, Long, Early, Heading, Limits, Over, Colour, Coordinate, Corner, Shape, Edge}
+
+abbrev pub rank : Layer → ℕ
+rank Text = 1
+rank Layout = 2
+rank Map = 3
 
 abbrev pub number_of : Ground → ℕ
 number_of Space = 6
@@ -36,4 +44,4 @@ layer_of Shape = 3
 layer_of Edge = 3
 
 abbrev pub fault : Ground → ℕ → Fault
-fault g p = record { number = number_of g; layer = layer_of g; place = p }
+fault g p = record { cause = g; place = p }

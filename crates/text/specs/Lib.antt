@@ -4,3 +4,5 @@ pub mod Turns
 pub mod Lexing
 pub mod Numerals
 pub mod Marks
+pub mod Headings
+pub mod Outs
