@@ -70,14 +70,7 @@ fn clear(doorways: &mut [Passage], corners: &mut [Corner], numbers: &mut [u16])
     ensures corners { points corners.new ≡ replicate (length corners.old) (pos 0, pos 0) }
     ensures numbers { numbers.new ≡ replicate (length numbers.old) 0 }
 {
-    doorways.fill(Passage {
-        near: 0,
-        far: 0,
-        left_x: 0,
-        left_y: 0,
-        right_x: 0,
-        right_y: 0,
-    });
+    doorways.fill(Passage::NONE);
     corners.fill(Corner {
         at: Post { x: 0, y: 0 },
     });
