@@ -14,11 +14,11 @@ use orders::order;
 use pile::Pile;
 use plan::{Plan, load};
 use report::report;
-use visibility::order::Order;
 use std::alloc::{AllocError, Global};
 use std::env;
 use std::io::{Read, Write};
 use text::Fault;
+use visibility::order::Order;
 
 // Says how the program is called, and that it was not called so.
 fn usage(rt: &HostRuntime) -> anyhow::Result<()> {
@@ -70,10 +70,7 @@ fn serve<M: Map + Drop>(rt: &HostRuntime, map: M, pile: Pile) -> anyhow::Result<
 
 // A plan that is refused ends the program.
 fn refuse(rt: &HostRuntime, fault: Fault) -> anyhow::Result<()> {
-    let number = fault.number;
-    let layer = fault.layer;
-    let place = fault.place;
-    println!(rt; "refused {number} layer {layer} at {place}")?;
+    println!(rt; "refused {fault}")?;
     Err(anyhow!("the plan is refused"))
 }
 

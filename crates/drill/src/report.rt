@@ -1,9 +1,9 @@
 // What is printed of orders and their answers.
 use crate::lines::Line;
+use std::alloc::{AllocError, Global};
 use visibility::call::Answer;
 use visibility::order::Order;
 use visibility::sightline::Sightline;
-use std::alloc::{AllocError, Global};
 
 const DIGITS: &[u8; 16] = b"0123456789abcdef";
 

@@ -43,10 +43,7 @@ fn take_orders<M: Map>(rt: &HostRuntime, map: &M, pile: &mut Pile) -> anyhow::Re
 
 // A plan that is refused ends the program.
 fn refuse(rt: &HostRuntime, fault: Fault) -> anyhow::Result<()> {
-    let number = fault.number;
-    let layer = fault.layer;
-    let place = fault.place;
-    println!(rt; "refused {number} layer {layer} at {place}")?;
+    println!(rt; "refused {fault}")?;
     Err(anyhow!("the plan is refused"))
 }
 

@@ -13,9 +13,9 @@ fn walked<M: Map>(map: &M, word: &str) -> Option<Quad> {
     let k = digits.parse::<usize>().ok()?;
     let there = map.doorway(k)?.crossing;
     if back {
-        Some(there.turned().quad())
+        Some(Quad::from(there.turned()))
     } else {
-        Some(there.quad())
+        Some(Quad::from(there))
     }
 }
 

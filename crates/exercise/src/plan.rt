@@ -24,21 +24,12 @@ fn grid_plan(text: &[u8]) -> Plan {
     }
 }
 
-const NO_PASSAGE: Passage = Passage {
-    near: 0,
-    far: 0,
-    left_x: 0,
-    left_y: 0,
-    right_x: 0,
-    right_y: 0,
-};
-
 // A plan of polygons.
 fn polygon_plan(text: &[u8]) -> Plan {
     let origin = Corner {
         at: Post { x: 0, y: 0 },
     };
-    let mut doorways = [NO_PASSAGE; 2048];
+    let mut doorways = [Passage::NONE; 2048];
     let mut corners = [origin; 1024];
     let mut numbers = [0u16; 4096];
     match polygon::plans::read(text, &mut doorways, &mut corners, &mut numbers) {

@@ -3,16 +3,17 @@ use grid::{Size, read};
 use std::process::Abort;
 use text::Fault;
 
+// A fault as its number, the number of its layer, and its place.
+fn numbers_of(fault: Fault) -> (u8, u8, usize) {
+    (fault.number(), fault.layer(), fault.place)
+}
+
 // The text is refused so, and the space is left all zeros.
 fn refused(rt: &impl Abort, text: &[u8], number: u8, layer: u8, place: usize) {
     let mut space = [7u8; 1539];
     assert_eq!(rt;
-        read(text, &mut space),
-        Err(Fault {
-            number,
-            layer,
-            place,
-        }),
+        read(text, &mut space).map_err(numbers_of),
+        Err((number, layer, place)),
         "{number} at {place}"
     );
     for x in space {
@@ -71,14 +72,7 @@ fn refusals(rt: HostRuntime) {
 #[test]
 fn short_space(rt: HostRuntime) {
     let mut space = [7u8; 1538];
-    assert_eq!(rt;
-        read(b"P4", &mut space),
-        Err(Fault {
-            number: 6,
-            layer: 2,
-            place: 0,
-        })
-    );
+    assert_eq!(rt; read(b"P4", &mut space).map_err(numbers_of), Err((6, 2, 0)));
     for x in space {
         assert_eq!(rt; x, 7);
     }

@@ -7,6 +7,11 @@ use polygon::plans::read;
 use std::process::Abort;
 use text::Fault;
 
+// A fault as its number, the number of its layer, and its place.
+fn numbers_of(fault: Fault) -> (u8, u8, usize) {
+    (fault.number(), fault.layer(), fault.place)
+}
+
 const NONE: Passage = Passage {
     near: 0,
     far: 0,
@@ -30,14 +35,7 @@ fn reading(text: &[u8]) -> (Result<Counts, Fault>, Passage) {
 
 fn refused(rt: &impl Abort, text: &str, number: u8, layer: u8, place: usize) {
     let (said, first) = reading(text.as_bytes());
-    assert_eq!(rt;
-        said,
-        Err(Fault {
-            number,
-            layer,
-            place,
-        })
-    );
+    assert_eq!(rt; said.map_err(numbers_of), Err((number, layer, place)));
     assert_eq!(rt; first, NONE);
 }
 
