@@ -9,6 +9,7 @@ ghost use Rattle.visibility.specs.Walks.{Lined};
 ghost use Rattle.visibility.specs.Worlds.{world};
 
 use crate::call::{Answer, Call};
+use crate::refusal::Refusal;
 use crate::table::Table;
 use maps::map::Map;
 use stabbing::stabber::{Sharp, Stabber};
@@ -19,7 +20,7 @@ pub fn run_calls<M: Map, S: Stabber>(
     map: M,
     stabber: S,
     calls: &[Call],
-    answers: &mut [Answer],
+    answers: &mut [Result<Answer, Refusal>],
 ) -> Table<M, S>
     ensures answered { (i : ℕ) → i < min (length calls.now) (length answers.old) → HoldsAt (λ call. HoldsAt (λ a. Answered (world (M.Map.rooms map) (M.Map.doorways map) (S.Stabber.lets stabber)) (reverse (take i calls.now)) call a) answers.new i) calls.now i }
     ensures rest { drop (min (length calls.now) (length answers.old)) answers.new ≡ drop (min (length calls.now) (length answers.old)) answers.old }
@@ -39,7 +40,7 @@ pub fn run_calls_sharp<M: Map, S: Sharp>(
     map: M,
     stabber: S,
     calls: &[Call],
-    answers: &mut [Answer],
+    answers: &mut [Result<Answer, Refusal>],
 ) -> Table<M, S>
     ensures answered { (i : ℕ) → i < min (length calls.now) (length answers.old) → HoldsAt (λ call. HoldsAt (λ a. Answered (world (M.Map.rooms map) (M.Map.doorways map) (S.Stabber.lets stabber)) (reverse (take i calls.now)) call a) answers.new i) calls.now i }
     ensures rest { drop (min (length calls.now) (length answers.old)) answers.new ≡ drop (min (length calls.now) (length answers.old)) answers.old }
