@@ -1,9 +1,9 @@
 // The search through the walks from a room, in dictionary order.
 ghost use Rattle.std.specs.Prelude.{◌≡◌, ◌+◌, ◌<◌, ◌≤◌, [], length, take};
-ghost use Rattle.visibility.specs.Sets.{marks, free, only};
+ghost use Rattle.visibility.specs.Sets.{marks, free};
 ghost use Rattle.visibility.specs.Worlds.{world};
 ghost use Rattle.visibility.specs.Indexes.{Indexed};
-ghost use Rattle.visibility.specs.Questions.{due, toured};
+ghost use Rattle.visibility.specs.Questions.{due, walks_from, toured};
 
 use crate::index::Index;
 use crate::row::ROOMS;
@@ -79,7 +79,7 @@ pub(crate) fn search_from<M: Map, S, V: Visitor<S>>(
 )
     requires shut { length (M.Map.doorways map.now) ≤ length shut.now }
     ensures lets { V.Visitor.lets stabber.new ≡ V.Visitor.lets stabber.old }
-    ensures toured { (stabber.new, visitor.new) ≡ toured V.Visitor.heard V.Visitor.told V.Visitor.ended stabber.old visitor.old (due (world (M.Map.rooms map.now) (M.Map.doorways map.now) (V.Visitor.lets stabber.old)) (marks shut.now) (only a) a [] []) }
+    ensures toured { (stabber.new, visitor.new) ≡ toured V.Visitor.heard V.Visitor.told V.Visitor.ended stabber.old visitor.old (walks_from (world (M.Map.rooms map.now) (M.Map.doorways map.now) (V.Visitor.lets stabber.old)) (marks shut.now) a) }
 {
     let mut entered = no_rooms();
     entered[a as usize] = true;
