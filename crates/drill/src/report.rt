@@ -32,13 +32,13 @@ fn witness(heap: Global, sightline: Sightline, doorways: &[usize]) -> Result<Str
 // The answer of an order.
 fn answer(heap: Global, order: &Order) -> Result<String, AllocError> {
     match order.answer {
-        Some(Answer::Count(n)) => format!(in heap; "{n}"),
-        Some(Answer::Seen(true)) => String::from_str(heap, "yes"),
-        Some(Answer::Seen(false)) => String::from_str(heap, "no"),
-        Some(Answer::Found(sightline)) => witness(heap, sightline, order.doorways.as_slice()),
-        Some(Answer::Written(count)) => hexadecimal(heap, order.bytes.as_slice(), count),
-        Some(Answer::NotSharp) => String::from_str(heap, "not sharp"),
-        Some(Answer::Refused(refusal)) => {
+        Some(Ok(Answer::Count(n))) => format!(in heap; "{n}"),
+        Some(Ok(Answer::Seen(true))) => String::from_str(heap, "yes"),
+        Some(Ok(Answer::Seen(false))) => String::from_str(heap, "no"),
+        Some(Ok(Answer::Found(sightline))) => witness(heap, sightline, order.doorways.as_slice()),
+        Some(Ok(Answer::Written(count))) => hexadecimal(heap, order.bytes.as_slice(), count),
+        Some(Ok(Answer::NotSharp)) => String::from_str(heap, "not sharp"),
+        Some(Err(refusal)) => {
             let number = refusal.number();
             format!(in heap; "refused {number}")
         }

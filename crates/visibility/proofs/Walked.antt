@@ -1,8 +1,9 @@
 -- A run of calls or of orders, as far as it has come.
-use Rattle.std.proofs.Common.{◌≡◌, ℕ, zero, suc, ◌+◌, ◌<◌, Bool, List, [], ◌∷◌, map, reverse, length, get_or, take, drop, set, sym, refl, ap, ◌∙◌, subst, subst₂, ⊎_elim, arith}
+use Rattle.std.proofs.Common.{◌≡◌, ℕ, zero, suc, ◌+◌, ◌<◌, Bool, List, [], ◌∷◌, map, reverse, length, get_or, take, drop, set, Result, sym, refl, ap, ◌∙◌, subst, subst₂, ⊎_elim, arith}
 use Rattle.std.specs.List.{HoldsAt}
 use Rattle.std.proofs.lemmas.List.{take_more, drop_more, reverse-append, get_or_default, length-map, get_or-set_same, get_or-set_other, drop-set-lt, drop-drop, length-set}
 use Rattle.std.proofs.lemmas.Bool.{cases_eq, false≢true}
+use Rattle.visibility.specs.declared.refusal.Refusal.{Refusal}
 use Rattle.visibility.specs.declared.call.Call.{Call}
 use Rattle.visibility.specs.declared.call.Answer.{Answer}
 use Rattle.visibility.specs.declared.order.Order.{Order}
@@ -68,12 +69,12 @@ module _ {X Y : Type 0} (w : World) (Right : List Call → X → Y → Type 0) (
   )
 
 -- calls with their answers
-module _ (w : World) (calls : List Call) (space : List Answer) where
-  abbrev pub RanCalls : ℕ → List Answer → State → Type 0
+module _ (w : World) (calls : List Call) (space : List (Result Answer Refusal)) where
+  abbrev pub RanCalls : ℕ → List (Result Answer Refusal) → State → Type 0
   RanCalls = Ran w (CallAnswered w) calls calls space
 
   pub calls_more :
-      (i : ℕ) (answers : List Answer) (s t : State) (c : Call) (r : Answer)
+      (i : ℕ) (answers : List (Result Answer Refusal)) (s t : State) (c : Call) (r : Result Answer Refusal)
       → i < length calls → i < length answers → get_or calls i c ≡ c
       → RanCalls i answers s
       → (Stands w (reverse (take i calls)) s → CallAnswered w (reverse (take i calls)) c r)

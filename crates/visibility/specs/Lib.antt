@@ -13,7 +13,6 @@ pub mod Bits
 pub mod Refusals
 pub mod Sights
 pub mod States
-pub mod Answers
 pub mod Histories
 pub mod Replies
 pub mod Calls

@@ -15,7 +15,7 @@
 --                       the call c after h answers r and turns the space s into t, where k says whether the stabber is sharp
 --   Answered k w h o p  the order o, made after h, has become p
 --   calls_of os         the calls of the orders os
-use Rattle.std.specs.Prelude.{◌≡◌, ℕ, ◌+◌, ◌*◌, ◌<◌, ◌≤◌, Bool, true, false, ◌⊎◌, List, ◌++◌, map, length, take, drop, Some, vec_items, ◌≢◌}
+use Rattle.std.specs.Prelude.{◌≡◌, ℕ, ◌+◌, ◌*◌, ◌<◌, ◌≤◌, Bool, true, false, ◌⊎◌, List, ◌++◌, map, length, take, drop, Some, Ok, Err, Result, vec_items, ◌≢◌}
 use Rattle.plane.specs.declared.quad.Quad.{Quad}
 use Rattle.plane.specs.Limits.{InLimits}
 use Rattle.plane.specs.Separation.{Proper, Separates, Stabbed}
@@ -24,7 +24,7 @@ use Rattle.visibility.specs.declared.refusal.Refusal.TheVariants.{NoSuchRoom, No
 use Rattle.visibility.specs.declared.call.Call.{Call}
 use Rattle.visibility.specs.declared.call.Call.TheVariants.{Fill, Shows, Shut, Open, Witness, Bitmap}
 use Rattle.visibility.specs.declared.call.Answer.{Answer}
-use Rattle.visibility.specs.declared.call.Answer.TheVariants.{Count, Seen, Found, Written, NotSharp, Refused}
+use Rattle.visibility.specs.declared.call.Answer.TheVariants.{Count, Seen, Found, Written, NotSharp}
 use Rattle.visibility.specs.declared.order.Order.{Order}
 use Rattle.visibility.specs.declared.sightline.Sightline.{Sightline}
 use Rattle.visibility.specs.Bitmaps.{heading, width, Pbm}
@@ -41,19 +41,19 @@ pub record Space : Type 0 where
 abbrev pub space_of : Order → Space
 space_of o = record { doorways = vec_items o.doorways; bytes = vec_items o.bytes }
 
-pub record TurnAnswered (w : World) (h : List Call) (c : Call) (k : ℕ) (v : Bool) (r : Answer) : Type 0 where
-  pub missing : length w.doorways ≤ k → r ≡ Refused NoSuchDoorway
-  pub already : k < length w.doorways → shut_after w h k ≡ v → r ≡ Refused Already
-  pub done : k < length w.doorways → (shut_after w h k ≢ v) → (n : ℕ) × (r ≡ Count n) × Counts w.rooms (Lost w h c) n
+pub record TurnAnswered (w : World) (h : List Call) (c : Call) (k : ℕ) (v : Bool) (r : Result Answer Refusal) : Type 0 where
+  pub missing : length w.doorways ≤ k → r ≡ Err NoSuchDoorway
+  pub already : k < length w.doorways → shut_after w h k ≡ v → r ≡ Err Already
+  pub done : k < length w.doorways → (shut_after w h k ≢ v) → (n : ℕ) × (r ≡ Ok (Count n)) × Counts w.rooms (Lost w h c) n
 
-pub record FillAnswered (w : World) (h : List Call) (a : ℕ) (r : Answer) : Type 0 where
-  pub missing : w.rooms ≤ a → r ≡ Refused NoSuchRoom
-  pub done : a < w.rooms → (n : ℕ) × (r ≡ Count n) × Counts w.rooms (SeenAfter w h a) n
+pub record FillAnswered (w : World) (h : List Call) (a : ℕ) (r : Result Answer Refusal) : Type 0 where
+  pub missing : w.rooms ≤ a → r ≡ Err NoSuchRoom
+  pub done : a < w.rooms → (n : ℕ) × (r ≡ Ok (Count n)) × Counts w.rooms (SeenAfter w h a) n
 
-pub record ShowsAnswered (w : World) (h : List Call) (a b : ℕ) (r : Answer) : Type 0 where
-  pub missing : (w.rooms ≤ a) ⊎ (w.rooms ≤ b) → r ≡ Refused NoSuchRoom
-  pub unfilled : a < w.rooms → b < w.rooms → (Current w h a → ⊥) → r ≡ Refused NotFilled
-  pub done : a < w.rooms → b < w.rooms → Current w h a → (y : Bool) × (r ≡ Seen y) × (y ≡ true → SeenAfter w h a b) × (SeenAfter w h a b → y ≡ true)
+pub record ShowsAnswered (w : World) (h : List Call) (a b : ℕ) (r : Result Answer Refusal) : Type 0 where
+  pub missing : (w.rooms ≤ a) ⊎ (w.rooms ≤ b) → r ≡ Err NoSuchRoom
+  pub unfilled : a < w.rooms → b < w.rooms → (Current w h a → ⊥) → r ≡ Err NotFilled
+  pub done : a < w.rooms → b < w.rooms → Current w h a → (y : Bool) × (r ≡ Ok (Seen y)) × (y ≡ true → SeenAfter w h a b) × (SeenAfter w h a b → y ≡ true)
 
 pub record WitnessFound (w : World) (shut : Numbers) (a b : ℕ) (v : Sightline) (xs ys : List ℕ) : Type 0 where
   pub doorways : List ℕ
@@ -63,16 +63,16 @@ pub record WitnessFound (w : World) (shut : Numbers) (a b : ℕ) (v : Sightline)
   pub count : v.doorways ≡ length doorways
   pub written : ys ≡ doorways ++ drop (length doorways) xs
 
-pub record WitnessAnswered (w : World) (h : List Call) (a b : ℕ) (r : Answer) (xs ys : List ℕ) : Type 0 where
-  pub missing : (w.rooms ≤ a) ⊎ (w.rooms ≤ b) → r ≡ Refused NoSuchRoom
-  pub same_room : a < w.rooms → b < w.rooms → a ≡ b → r ≡ Refused SameRoomTwice
-  pub short : a < w.rooms → b < w.rooms → (a ≢ b) → length xs + 1 < w.rooms → r ≡ Refused SpaceTooShort
+pub record WitnessAnswered (w : World) (h : List Call) (a b : ℕ) (r : Result Answer Refusal) (xs ys : List ℕ) : Type 0 where
+  pub missing : (w.rooms ≤ a) ⊎ (w.rooms ≤ b) → r ≡ Err NoSuchRoom
+  pub same_room : a < w.rooms → b < w.rooms → a ≡ b → r ≡ Err SameRoomTwice
+  pub short : a < w.rooms → b < w.rooms → (a ≢ b) → length xs + 1 < w.rooms → r ≡ Err SpaceTooShort
   pub unlined :
-      a < w.rooms → b < w.rooms → (a ≢ b) → w.rooms ≤ length xs + 1 → (Lined w (shut_after w h) a b → ⊥) → r ≡ Refused NoLine
+      a < w.rooms → b < w.rooms → (a ≢ b) → w.rooms ≤ length xs + 1 → (Lined w (shut_after w h) a b → ⊥) → r ≡ Err NoLine
   pub done :
       a < w.rooms → b < w.rooms → (a ≢ b) → w.rooms ≤ length xs + 1 → Lined w (shut_after w h) a b
-      → (v : Sightline) × (r ≡ Found v) × WitnessFound w (shut_after w h) a b v xs ys
-  pub kept : (e : Refusal) → r ≡ Refused e → ys ≡ xs
+      → (v : Sightline) × (r ≡ Ok (Found v)) × WitnessFound w (shut_after w h) a b v xs ys
+  pub kept : (e : Refusal) → r ≡ Err e → ys ≡ xs
 
 abbrev pub size : ℕ → ℕ
 size n = length (heading n) + n * width n
@@ -84,19 +84,19 @@ pub record BitmapWritten (w : World) (h : List Call) (n : ℕ) (xs ys : List ℕ
   pub bitmap : Pbm w.rooms rows (take n ys)
   pub rest : drop n ys ≡ drop n xs
 
-pub record BitmapAnswered (w : World) (h : List Call) (r : Answer) (xs ys : List ℕ) : Type 0 where
-  pub unfilled : (a : ℕ) → a < w.rooms → (Current w h a → ⊥) → r ≡ Refused NotFilled
-  pub short : ((a : ℕ) → a < w.rooms → Current w h a) → length xs < size w.rooms → r ≡ Refused SpaceTooShort
+pub record BitmapAnswered (w : World) (h : List Call) (r : Result Answer Refusal) (xs ys : List ℕ) : Type 0 where
+  pub unfilled : (a : ℕ) → a < w.rooms → (Current w h a → ⊥) → r ≡ Err NotFilled
+  pub short : ((a : ℕ) → a < w.rooms → Current w h a) → length xs < size w.rooms → r ≡ Err SpaceTooShort
   pub done :
       ((a : ℕ) → a < w.rooms → Current w h a) → size w.rooms ≤ length xs
-      → (n : ℕ) × (r ≡ Written n) × BitmapWritten w h n xs ys
-  pub kept : (e : Refusal) → r ≡ Refused e → ys ≡ xs
+      → (n : ℕ) × (r ≡ Ok (Written n)) × BitmapWritten w h n xs ys
+  pub kept : (e : Refusal) → r ≡ Err e → ys ≡ xs
 
-abbrev pub WitnessReplied : Bool → World → List Call → ℕ → ℕ → Answer → Space → Space → Type 0
+abbrev pub WitnessReplied : Bool → World → List Call → ℕ → ℕ → Result Answer Refusal → Space → Space → Type 0
 WitnessReplied true w h a b r s t = WitnessAnswered w h a b r s.doorways t.doorways × (t.bytes ≡ s.bytes)
-WitnessReplied false w h a b r s t = (r ≡ NotSharp) × (t ≡ s)
+WitnessReplied false w h a b r s t = (r ≡ Ok NotSharp) × (t ≡ s)
 
-abbrev pub Replied : Bool → World → List Call → Call → Answer → Space → Space → Type 0
+abbrev pub Replied : Bool → World → List Call → Call → Result Answer Refusal → Space → Space → Type 0
 Replied k w h (Fill a) r s t = FillAnswered w h a r × (t ≡ s)
 Replied k w h (Shows a b) r s t = ShowsAnswered w h a b r × (t ≡ s)
 Replied k w h (Shut x) r s t = TurnAnswered w h (Shut x) x true r × (t ≡ s)
@@ -105,7 +105,7 @@ Replied k w h (Witness a b) r s t = WitnessReplied k w h a b r s t
 Replied k w h Bitmap r s t = BitmapAnswered w h r s.bytes t.bytes × (t.doorways ≡ s.doorways)
 
 pub record Answered (k : Bool) (w : World) (h : List Call) (o p : Order) : Type 0 where
-  pub answer : Answer
+  pub answer : Result Answer Refusal
   pub is_answer : p.answer ≡ Some answer
   pub replied : Replied k w h o.call answer (space_of o) (space_of p)
   pub call : p.call ≡ o.call

@@ -1,5 +1,4 @@
 // A call on a table, and its answer, as values.
-use crate::refusal::Refusal;
 use crate::sightline::Sightline;
 
 #[derive(Clone, Copy)]
@@ -23,5 +22,4 @@ pub enum Answer {
     Written(usize),
     // The stabber answers no lines, so there are no witnesses.
     NotSharp,
-    Refused(Refusal),
 }

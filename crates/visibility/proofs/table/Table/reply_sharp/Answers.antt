@@ -1,12 +1,14 @@
-use Rattle.std.proofs.Common.{true, ◌∷◌, sym, refl, subst, subst₂}
+use Rattle.std.proofs.Common.{◌≡◌, rules, Result, true, ◌∷◌, sym, refl, subst, subst₂}
+use Rattle.visibility.specs.declared.refusal.Refusal.{Refusal}
 use Rattle.visibility.specs.declared.call.Call.{Call}
 use Rattle.visibility.specs.declared.call.Call.TheVariants.{Witness}
 use Rattle.visibility.specs.declared.call.Answer.{Answer}
+use Rattle.visibility.specs.declared.call.Answer.TheVariants.{Found}
 use Rattle.visibility.specs.Histories.{Stands}
 use Rattle.visibility.specs.Replies.{Space, Replied}
 use Rattle.visibility.specs.States.{state_of}
-use Rattle.visibility.specs.Worlds.{world}
-use Rattle.visibility.proofs.Histories.{same_stands}
+use Rattle.visibility.specs.Worlds.{meant}
+use Rattle.visibility.proofs.Histories.{answered, answered_is, same_stands}
 use Rattle.visibility.proofs.Paths.{sharp_stabbed}
 use Rattle.visibility.proofs.Replies.{after_witness, replied_sharp}
 use Rattle.visibility.proofs.table.Table.reply_sharp.Goals as goal
@@ -15,11 +17,12 @@ pub returns-in-Witness : goal.returns-in-Witness
 returns-in-Witness g c =
     let t = c.args.self.now in
     let s = t.stabber in
-    let w = world (g.M.Map.rooms t.map) (g.M.Map.doorways t.map) (g.S.Stabber.lets s) in
+    let w = meant g.M.Map g.S.Stabber t.map s in
     let old : Space = record { doorways = c.args.doorways.now; bytes = c.args.bytes.now } in
     let new : Space = record { doorways = c.witness.new.space; bytes = c.args.bytes.now } in
+    let is : answered Found c.witness.result ≡ c.map.result = answered_is Found c.witness.result c.map.result (search rules) in
     record {
-      value = λ h st. subst₂ (λ (x : Call) (r : Answer). Replied true w h x r old new) (sym c.in-Witness.is) (sym c.found.ensures) (
+      value = λ h st. subst₂ (λ (x : Call) (r : Result Answer Refusal). Replied true w h x r old new) (sym c.in-Witness.is) is (
         after_witness w h (state_of t) st (g.met.M.Map.inside t.map) (g.met.M.Map.bounded t.map) (g.met.S.Stabber.stabbed s)
             (sharp_stabbed (g.S.Stabber.lets s) (g.S.Sharp.line s) (g.met.S.Sharp.sharp s) (g.met.S.Sharp.separates s))
             c.in-Witness.a c.in-Witness.b _ c.witness.result c.args.doorways.now c.witness.new.space c.witness.ensures.value,
