@@ -1,5 +1,5 @@
 // Wedge: a quick stabber that sets only three neighbouring crossings at a time against a line.
-ghost use Rattle.std.specs.Prelude.{◌≡◌, ◌≤◌, length, Decides};
+ghost use Rattle.std.specs.Prelude.{◌≡◌, Decides};
 ghost use Rattle.std.specs.List.{AllByRecursion};
 ghost use Rattle.plane.specs.Limits.{Path};
 ghost use Rattle.plane.specs.Separation.{Stabbed};
@@ -14,11 +14,10 @@ use plane::quad::Quad;
 
 // Whether each three neighbouring crossings have a separating line.
 fn all_neighbours(path: &[Quad]) -> bool
-    requires { 3 ≤ length path.now }
     ensures { result ≡ all_stabbed (neighbours path.now) }
 {
-    for k in 0..path.len() - 2 {
-        if exact_line(&path[k..k + 3]).is_none() {
+    for three in path.windows(3) {
+        if exact_line(three).is_none() {
             return false;
         }
     }
