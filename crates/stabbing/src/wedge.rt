@@ -24,18 +24,23 @@ fn all_neighbours(path: &[Quad]) -> bool
     true
 }
 
+// The same, and for a shorter path whether the whole has one.
+fn all_threes(path: &[Quad]) -> bool
+    ensures { result ≡ all_stabbed (threes path.now) }
+{
+    if path.len() < 3 {
+        exact_line(path).is_some()
+    } else {
+        all_neighbours(path)
+    }
+}
+
 // Whether the path has a separating line for each three neighbouring crossings; a shorter one, for the whole.
 pub fn wedge_lets(path: &[Quad]) -> bool
     ensures value { result ≡ wedge_lets path.now }
     ensures test { Decides result (Path path.now × AllByRecursion Stabbed (threes path.now)) }
 {
-    if !is_path(path) {
-        return false;
-    }
-    if path.len() < 3 {
-        return exact_line(path).is_some();
-    }
-    all_neighbours(path)
+    is_path(path) && all_threes(path)
 }
 
 // Lets through the paths of which each three neighbouring crossings have a separating line.
