@@ -1,7 +1,8 @@
 -- Three neighbouring crossings at a time: Wedge's set, and its laws.
-use Rattle.std.proofs.Common.{◌≡◌, ◌<◌, ◌≤◌, Bool, true, false, cond, ◌&&◌, ltb, List, [], ◌∷◌, ◌++◌, length, take, drop, is_some, Decides, refl, ap, ◌∙◌, subst, arith, length-append, take_all}
+use Rattle.std.proofs.Common.{◌≡◌, ◌<◌, ◌≤◌, true, false, cond, ltb, List, [], ◌∷◌, ◌++◌, length, take, drop, is_some, Decides, refl, ap, ◌∙◌, subst, arith, length-append, take_all}
 use Rattle.std.specs.List.{AllByRecursion}
 use Rattle.std.proofs.ByRecursion.{All-weaker, Decides-by_and}
+use Rattle.std.proofs.Math.Bool.{and-true}
 use Rattle.std.proofs.lemmas.Bool.{ltb-false, ltb-true, le-ltb, lt-ltb}
 use Rattle.std.proofs.lemmas.Bool.Decides.{Decides-and, Decides-like}
 use Rattle.plane.specs.declared.quad.Quad.{Quad}
@@ -52,11 +53,7 @@ module _ (p : List Quad) where
   threes_short h = rw (lt-ltb (length p) 3 h) refl
 
   pub stabbed_short : length p < 3 → all_stabbed (threes p) ≡ is_some (exact_line p)
-  stabbed_short h = ap all_stabbed (threes_short h) ∙ and_true (is_some (exact_line p))
-    where
-      and_true : (b : Bool) → (b && true) ≡ b
-      and_true true = refl
-      and_true false = refl
+  stabbed_short h = ap all_stabbed (threes_short h) ∙ and-true (is_some (exact_line p))
 
   pub threes_long : 3 ≤ length p → threes p ≡ neighbours p
   threes_long h = rw (le-ltb (length p) 3 h) refl
