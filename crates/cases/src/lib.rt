@@ -6,4 +6,6 @@ mod lines;
 #[cfg(test)]
 mod piles;
 #[cfg(test)]
+mod quads;
+#[cfg(test)]
 mod shapes;

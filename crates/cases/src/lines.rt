@@ -1,12 +1,8 @@
 // Exact and Wedge on small paths.
-use plane::quad::Quad;
+use crate::quads::quad;
 use stabbing::exact::Exact;
 use stabbing::stabber::{Sharp, Stabber};
 use stabbing::wedge::Wedge;
-
-fn quad(lx: i32, ly: i32, rx: i32, ry: i32) -> Quad {
-    Quad { lx, ly, rx, ry }
-}
 
 // The right posts (0, 0) and (4, 0) with the left post (2, 0) between them leave only the line through all three.
 #[test]

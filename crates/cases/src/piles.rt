@@ -1,21 +1,14 @@
 // Layers over layers.
-use plane::quad::Quad;
+use crate::quads::quad;
 use stabbing::both::Both;
 use stabbing::exact::Exact;
 use stabbing::memory::Memory;
 use stabbing::stabber::{Sharp, Stabber};
 use stabbing::wedge::Wedge;
 
-fn quad(lx: i32, ly: i32, rx: i32, ry: i32) -> Quad {
-    Quad { lx, ly, rx, ry }
-}
-
-// The line that is held, or (0, 0, 0).
-fn held<S>(memory: &Memory<S>) -> (i32, i32, i32) {
-    match memory.held {
-        Some(line) => line.numbers(),
-        None => (0, 0, 0),
-    }
+// The line that is held.
+fn held<S>(memory: &Memory<S>) -> Option<(i32, i32, i32)> {
+    memory.held.map(|line| line.numbers())
 }
 
 // Two doorways of a corridor have the line along their left posts; it serves the first alone, where Exact has another.
@@ -23,15 +16,15 @@ fn held<S>(memory: &Memory<S>) -> (i32, i32, i32) {
 fn memory_recalls(rt: HostRuntime) {
     let path = [quad(4, 7, 4, 5), quad(8, 7, 8, 5)];
     let mut memory = Memory::new(Exact {});
-    assert_eq!(rt; held(&memory), (0, 0, 0));
+    assert_eq!(rt; held(&memory), None);
     assert_eq!(rt; memory.stabbing_line(&path), Some((0, 4, -28)));
-    assert_eq!(rt; held(&memory), (0, 4, -28));
+    assert_eq!(rt; held(&memory), Some((0, 4, -28)));
     assert_eq!(rt; memory.stabbing_line(&path[0..1]), Some((0, 4, -28)));
     assert_eq!(rt; Exact {}.stabbing_line(&path[0..1]), Some((2, 0, -8)));
     assert!(rt; !memory.lets_through(&[quad(4, 7, 4, 7)]));
-    assert_eq!(rt; held(&memory), (0, 4, -28));
+    assert_eq!(rt; held(&memory), Some((0, 4, -28)));
     assert!(rt; memory.lets_through(&[quad(1, 4, 3, 4)]));
-    assert_eq!(rt; held(&memory), (0, 2, -8));
+    assert_eq!(rt; held(&memory), Some((0, 2, -8)));
 }
 
 // What the front refuses never reaches the back.
@@ -51,10 +44,10 @@ fn both_asks_its_back_last(rt: HostRuntime) {
     };
     assert_eq!(rt; both.stabbing_line(&turn[0..2]), Some((-3, 3, -9)));
     assert_eq!(rt; both.stabbing_line(&turn), None);
-    assert_eq!(rt; held(&both.back), (-3, 3, -9));
+    assert_eq!(rt; held(&both.back), Some((-3, 3, -9)));
     assert_eq!(rt; both.stabbing_line(&mess), None);
     assert!(rt; both.lets_through(&mess[1..4]));
-    assert_eq!(rt; held(&both.back), (0, 4, -44));
+    assert_eq!(rt; held(&both.back), Some((0, 4, -44)));
 }
 
 // A memory over a memory, and one over both: the upper answers first, and both hold what was found.
@@ -63,8 +56,8 @@ fn memories_over_memories(rt: HostRuntime) {
     let path = [quad(4, 7, 4, 5), quad(8, 7, 8, 5)];
     let mut twice = Memory::new(Memory::new(Exact {}));
     assert_eq!(rt; twice.stabbing_line(&path), Some((0, 4, -28)));
-    assert_eq!(rt; held(&twice), (0, 4, -28));
-    assert_eq!(rt; held(&twice.below), (0, 4, -28));
+    assert_eq!(rt; held(&twice), Some((0, 4, -28)));
+    assert_eq!(rt; held(&twice.below), Some((0, 4, -28)));
     let mut over = Memory::new(Both {
         front: Wedge {},
         back: Exact {},

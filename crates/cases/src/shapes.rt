@@ -1,10 +1,10 @@
 // Posts, crossings, lines and the one check.
+use crate::quads::quad;
 use plane::check::first_wrong;
 use plane::corner::Corner;
 use plane::crossing::Crossing;
 use plane::line::Line;
 use plane::post::Post;
-use plane::quad::Quad;
 use std::test::Fail;
 
 #[test]
@@ -46,24 +46,9 @@ fn sits_wrongly(rt: HostRuntime) -> Result<(), Fail> {
     };
     assert_eq!(rt; line.numbers(), (0, 4, 0));
     assert_eq!(rt; line.value(1, 2), 8);
-    let well = Quad {
-        lx: 0,
-        ly: 1,
-        rx: 9,
-        ry: 0,
-    };
-    let left_below = Quad {
-        lx: 1,
-        ly: -1,
-        rx: 1,
-        ry: -2,
-    };
-    let right_above = Quad {
-        lx: 1,
-        ly: 1,
-        rx: 2,
-        ry: 1,
-    };
+    let well = quad(0, 1, 9, 0);
+    let left_below = quad(1, -1, 1, -2);
+    let right_above = quad(1, 1, 2, 1);
     assert_eq!(rt; first_wrong(&line, &[well, well]), None);
     assert_eq!(rt;
         first_wrong(&line, &[well, left_below, right_above]),

@@ -1,17 +1,14 @@
 -- Answers that are there or not.
-use Rattle.std.proofs.Common.{◌≡◌, ℕ, Bool, true, false, cond, ◌⊎◌, is_some, IfSome, Some, None, Option, refl, inl, inr, arith}
+use Rattle.std.proofs.Common.{◌≡◌, Bool, true, false, cond, ◌⊎◌, is_some, IfSome, Some, None, Option, refl, inl, inr}
 use Rattle.std.specs.Option.{option_map, option_or}
 use Rattle.std.proofs.lemmas.Bool.{false≢true}
+use Rattle.std.proofs.lemmas.Option.{none-some}
 
 module _ {X : Type 0} where
-  -- nothing is no answer
-  pub not_some : {Y : Type 0} (x : X) → ◌≡◌ {A = Option X} None (Some x) → Y
-  not_some x e = absurd (let z : ◌≡◌ {A = ℕ} 0 1 = cc in omega arith)
-
   -- an answer under a test
   pub under : (b : Bool) (o : Option X) (x : X) → cond b o None ≡ Some x → (b ≡ true) × (o ≡ Some x)
   under true o x e = (refl, e)
-  under false o x e = not_some x e
+  under false o x e = absurd (none-some x e)
 
   -- a line that both let through is the back's
   pub backs : (b : Bool) (o : Option X) (x : X) → cond b o None ≡ Some x → o ≡ Some x

@@ -4,6 +4,7 @@ use Rattle.std.specs.Option.{option_map}
 use Rattle.std.specs.List.{AllByRecursion}
 use Rattle.std.proofs.ByRecursion.{All-weaker}
 use Rattle.std.proofs.lemmas.Bool.Decides.{Decides-at}
+use Rattle.std.proofs.lemmas.Option.{none-some}
 use Rattle.plane.specs.declared.quad.Quad.{Quad}
 use Rattle.plane.specs.First.{first}
 use Rattle.plane.specs.Limits.{Crosses, InLimits, Path}
@@ -13,14 +14,14 @@ use Rattle.plane.specs.Tests.{is_path, same_point, separates}
 use Rattle.plane.proofs.Tests.{is_path_decides, same_point_decides, separates_decides}
 use Rattle.plane.proofs.TwoPosts.{two_posts}
 use Rattle.stabbing.specs.Exact.{exact_line, fan, first_line, line_through, tries}
-use Rattle.stabbing.specs.Answers.{not_some, some_left, some_mapped, some_right, some_value, under}
+use Rattle.stabbing.specs.Answers.{some_left, some_mapped, some_right, some_value, under}
 use Rattle.stabbing.specs.Fronts.{path_front, stabbed_front}
 use Rattle.stabbing.specs.Limited.{posts_limited, tries_limited}
 use Rattle.stabbing.specs.Tries.{fan_more, tries_more}
 
 -- what the first that passes is
 first_is : {X : Type 0} (t : X → Bool) (P : X → Type 0) (xs : List X) (x : X) → AllByRecursion P xs → first t xs ≡ Some x → P x × (t x ≡ true)
-first_is t P [] x h e = not_some x e
+first_is t P [] x h e = absurd (none-some x e)
 first_is t P (y ∷ ys) x (h, hs) e =
     elim (t y) as (λ b. t y ≡ b → cond b (Some y) (first t ys) ≡ Some x → P x × (t x ≡ true)) [
       | true ↦ λ f k. let same : y ≡ x = cc in (subst P same h, ap t (sym same) ∙ f)

@@ -1,5 +1,5 @@
 -- A line through two posts of a path is a line within the limits.
-use Rattle.std.proofs.Common.{◌≡◌, ◌≤◌, true, false, cond, List, [], ◌∷◌, ℤ, ◌-ℤ◌, ◌*ℤ◌, nat_abs, refl, ap₂, arith}
+use Rattle.std.proofs.Common.{◌≡◌, ◌≤◌, true, false, cond, List, [], ◌∷◌, ℤ, ◌-ℤ◌, ◌*ℤ◌, nat_abs, refl, arith}
 use Rattle.std.proofs.ByRecursion.{All-append}
 use Rattle.std.proofs.lemmas.Int.{ints}
 use Rattle.std.proofs.lemmas.Bool.Decides.{not_from_Decides}
@@ -9,6 +9,7 @@ use Rattle.plane.specs.Limits.{Crosses, InLimits, PostAt}
 use Rattle.plane.specs.Lines.{posts, through}
 use Rattle.plane.specs.Separation.{Point, Proper}
 use Rattle.plane.specs.Tests.{same_point}
+use Rattle.plane.proofs.Directions.{through_proper}
 use Rattle.plane.proofs.Products.{product_within}
 use Rattle.plane.proofs.Tests.{same_point_decides}
 use Rattle.stabbing.specs.Exact.{fan, tries}
@@ -25,12 +26,6 @@ through_limits P Q (px, py) (qx, qy) = (
   narrow_within Q.0 P.0 qx px,
   difference_within (P.0 *ℤ Q.1) (Q.0 *ℤ P.1) (product_within P.0 Q.1 10000 10000 px qy) (product_within Q.0 P.1 10000 10000 qx py),
 )
-
-through_proper : (P Q : Point) → (P ≡ Q → ⊥) → Proper (through P Q)
-through_proper P Q apart a b =
-    let y : P.1 ≡ Q.1 = omega (arith, ints) in
-    let x : P.0 ≡ Q.0 = omega (arith, ints) in
-    apart (ap₂ (λ u v. (u, v)) x y)
 
 pub fan_limited : (P : Point) (Qs : List Point) → PostAt P → AllByRecursion PostAt Qs → AllByRecursion (λ l. Proper l × InLimits l) (fan P Qs)
 fan_limited P [] h hs = tt

@@ -2,6 +2,7 @@
 use Rattle.std.proofs.Common.{◌≡◌, Bool, true, ◌&&◌, List, is_some, Some, None, Option, sym, refl, subst, ⊎_elim}
 use Rattle.std.specs.Option.{option_or}
 use Rattle.std.proofs.lemmas.Bool.{and_parts}
+use Rattle.std.proofs.lemmas.Option.{none-some}
 use Rattle.plane.specs.declared.line.Line.{Line}
 use Rattle.plane.specs.declared.quad.Quad.{Quad}
 use Rattle.plane.specs.Limits.{InLimits, Path}
@@ -11,11 +12,11 @@ use Rattle.plane.specs.Tests.{is_path, separates}
 use Rattle.plane.proofs.StoredLine.{line_limits, line_proper}
 use Rattle.plane.proofs.Tests.{is_path_decides, separates_decides}
 use Rattle.stabbing.specs.Memory.{recalled}
-use Rattle.stabbing.specs.Answers.{either, not_some, under}
+use Rattle.stabbing.specs.Answers.{either, under}
 
 -- a line that is recalled separates the path
 pub recalled_is : (h : Option Line) (p : List Quad) (l : Coefficients) → recalled h p ≡ Some l → Path p × Proper l × InLimits l × Separates l p
-recalled_is None p l e = not_some l e
+recalled_is None p l e = absurd (none-some l e)
 recalled_is (Some k) p l e =
     let yes = under (is_path p && separates (coefficients k) p) _ l e in
     let tests = and_parts (is_path p) (separates (coefficients k) p) yes.0 in

@@ -5,7 +5,7 @@ use Rattle.plane.specs.Separation.{Coefficients}
 use Rattle.stabbing.specs.declared.span.Span.{Span}
 use Rattle.stabbing.specs.Arrows.{Climbs, rise, vector}
 
-unfoldable pub Fits : Coefficients → Span → Type 0
+abbrev pub Fits : Coefficients → Span → Type 0
 Fits l s =
     Climbs l (vector s.first) × Climbs l (vector s.left) × Climbs l (vector s.right)
     × (s.pinned ≡ true → rise l (vector s.first) ≤ℤ pos 0)

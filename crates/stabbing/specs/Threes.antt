@@ -1,21 +1,18 @@
 -- Three neighbouring crossings at a time: Wedge's set, and its laws.
-use Rattle.std.proofs.Common.{◌≡◌, ℕ, ◌+◌, ◌-◌, ◌<◌, ◌≤◌, Bool, true, false, cond, ◌&&◌, ltb, List, [], ◌∷◌, ◌++◌, length, take, drop, is_some, Decides, Option, sym, refl, ap, ◌∙◌, subst, ap₂, arith, length-append, length-drop, take_all, drop-drop}
-use Rattle.std.specs.Option.{option_map}
+use Rattle.std.proofs.Common.{◌≡◌, ◌<◌, ◌≤◌, true, false, cond, ltb, List, [], ◌∷◌, ◌++◌, length, take, drop, is_some, Decides, refl, ap, ◌∙◌, subst, arith, length-append, take_all}
 use Rattle.std.specs.List.{AllByRecursion}
 use Rattle.std.proofs.ByRecursion.{All-weaker, Decides-by_and}
+use Rattle.std.proofs.Math.Bool.{and-true}
 use Rattle.std.proofs.lemmas.Bool.{ltb-false, ltb-true, le-ltb, lt-ltb}
 use Rattle.std.proofs.lemmas.Bool.Decides.{Decides-and, Decides-like}
-use Rattle.plane.specs.declared.line.Line.{Line}
 use Rattle.plane.specs.declared.quad.Quad.{Quad}
 use Rattle.plane.specs.Limits.{Crosses, Path}
 use Rattle.plane.specs.Separation.{Parts, Stabbed}
-use Rattle.plane.specs.Shapes.{coefficients}
 use Rattle.plane.specs.Tests.{is_path}
 use Rattle.plane.proofs.Lists.{all_both}
 use Rattle.plane.proofs.Tests.{is_path_decides}
 use Rattle.stabbing.specs.Exact.{exact_line}
 use Rattle.stabbing.specs.Wedge.{all_stabbed, neighbours, threes, wedge_lets}
-use Rattle.stabbing.specs.Answers.{some_mapped}
 use Rattle.stabbing.specs.Found.{exact_decides}
 use Rattle.stabbing.specs.Fronts.{path_front, stabbed_front}
 
@@ -52,8 +49,11 @@ all_stabbed_decides ps = Decides-by_and (λ w. is_some (exact_line w)) (λ w. Pa
 
 -- by length
 module _ (p : List Quad) where
-  pub threes_short : length p < 3 → threes p ≡ p ∷ []
+  threes_short : length p < 3 → threes p ≡ p ∷ []
   threes_short h = rw (lt-ltb (length p) 3 h) refl
+
+  pub stabbed_short : length p < 3 → all_stabbed (threes p) ≡ is_some (exact_line p)
+  stabbed_short h = ap all_stabbed (threes_short h) ∙ and-true (is_some (exact_line p))
 
   pub threes_long : 3 ≤ length p → threes p ≡ neighbours p
   threes_long h = rw (le-ltb (length p) 3 h) refl
@@ -104,33 +104,3 @@ wedge_front p q e =
       path_front p (q ∷ []) h.0,
       of_threes p (AllByRecursion Stabbed) (λ s. (short_front p q s h.1, tt)) (λ l. neighbours_front Stabbed p (q ∷ []) (subst (AllByRecursion Stabbed) (threes_long (p ++ q ∷ []) (omega (arith, length-append p (q ∷ [])))) h.1)),
     )
-
--- how the code goes through the threes
-module _ (p : List Quad) where
-  pub wedge_no_path : is_path p ≡ false → wedge_lets p ≡ false
-  unfolding wedge_lets
-  wedge_no_path e = ap (λ b. b && all_stabbed (threes p)) e
-
-  pub wedge_short : is_path p ≡ true → length p < 3 → wedge_lets p ≡ is_some (exact_line p)
-  unfolding wedge_lets
-  wedge_short e h = ap₂ (λ b ws. b && all_stabbed ws) e (threes_short p h) ∙ and_true (is_some (exact_line p))
-    where
-      and_true : (b : Bool) → (b && true) ≡ b
-      and_true true = refl
-      and_true false = refl
-
-  pub wedge_long : is_path p ≡ true → 3 ≤ length p → wedge_lets p ≡ all_stabbed (neighbours p)
-  unfolding wedge_lets
-  wedge_long e h = ap₂ (λ b ws. b && all_stabbed ws) e (threes_long p h)
-
-  -- one turn, at the place k, where r is Exact's answer for the three from there
-  pub three_more : (k : ℕ) (r : Option Line) → k + 3 ≤ length p → option_map coefficients r ≡ exact_line (take (k + 3 - k) (drop k p)) →
-      all_stabbed (neighbours (drop k p)) ≡ (is_some r && all_stabbed (neighbours (drop (k + 1) p)))
-  three_more k r h e =
-      let three : k + 3 - k ≡ 3 = omega arith in
-      let same : is_some r ≡ is_some (exact_line (take 3 (drop k p))) = some_mapped coefficients r ∙ ap is_some (e ∙ ap (λ n. exact_line (take n (drop k p))) three) in
-      ap all_stabbed (neighbours_more (drop k p) (simp length-drop (omega arith)))
-      ∙ ap₂ (λ b q. b && all_stabbed (neighbours q)) (sym same) (drop-drop 1 k p)
-
-  pub three_none : (k : ℕ) → length p ≤ k + 2 → all_stabbed (neighbours (drop k p)) ≡ true
-  three_none k h = ap all_stabbed (neighbours_none (drop k p) (simp length-drop (omega arith)))

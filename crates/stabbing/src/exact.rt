@@ -1,5 +1,5 @@
 // Exact: the first line through two posts of the path that separates it.
-ghost use Rattle.std.specs.Prelude.{◌≡◌, [], ◌∷◌, is_some, Some, Decides};
+ghost use Rattle.std.specs.Prelude.{◌≡◌, [], ◌∷◌, is_some, Decides};
 ghost use Rattle.std.specs.Option.{option_map};
 ghost use Rattle.std.specs.List.{AllByRecursion};
 ghost use Rattle.plane.specs.Limits.{Path};

@@ -16,24 +16,21 @@ pub struct Memory<S> {
     pub held: Option<Line>,
 }
 
-// The held line, where it separates the path.
-fn recall(held: Option<Line>, path: &[Quad]) -> Option<(i32, i32, i32)>
-    ensures { result ≡ recalled held path.now }
-{
-    let line = held?;
-    if is_path(path) && line.separates(path) {
-        Some(line.numbers())
-    } else {
-        None
-    }
-}
-
 impl<S> Memory<S> {
     // At first no line is held.
     pub fn new(below: S) -> Memory<S>
         ensures { result ≡ record { below = below; held = None } }
     {
         Memory { below, held: None }
+    }
+
+    // The held line, where it separates the path.
+    fn recall(&self, path: &[Quad]) -> Option<(i32, i32, i32)>
+        ensures { result ≡ recalled self.now.held path.now }
+    {
+        self.held
+            .filter(|line| is_path(path) && line.separates(path))
+            .map(|line| line.numbers())
     }
 }
 
@@ -47,18 +44,20 @@ fn keep(held: Option<Line>, found: Option<(i32, i32, i32)>) -> Option<Line>
     }
 }
 
-// The held line where it separates the path, else the line from below, which is then held.
-fn find<S: Sharp>(memory: &mut Memory<S>, path: &[Quad]) -> Option<(i32, i32, i32)>
-    ensures value { result ≡ option_or (recalled memory.old.held path.now) (S.Sharp.line memory.old.below path.now) }
-    ensures after { memory.new ≡ (if is_some (recalled memory.old.held path.now) then memory.old else (record { below = S.Sharp.lined memory.old.below path.now; held = kept memory.old.held (S.Sharp.line memory.old.below path.now) })) }
-{
-    let recalled = recall(memory.held, path);
-    if recalled.is_some() {
-        return recalled;
+impl<S: Sharp> Memory<S> {
+    // The held line where it separates the path, else the line from below, which is then held.
+    fn find(&mut self, path: &[Quad]) -> Option<(i32, i32, i32)>
+        ensures value { result ≡ option_or (recalled self.old.held path.now) (S.Sharp.line self.old.below path.now) }
+        ensures after { self.new ≡ (if is_some (recalled self.old.held path.now) then self.old else (record { below = S.Sharp.lined self.old.below path.now; held = kept self.old.held (S.Sharp.line self.old.below path.now) })) }
+    {
+        let recalled = self.recall(path);
+        if recalled.is_some() {
+            return recalled;
+        }
+        let found = self.below.stabbing_line(path);
+        self.held = keep(self.held, found);
+        found
     }
-    let found = memory.below.stabbing_line(path);
-    memory.held = keep(memory.held, found);
-    found
 }
 
 impl<S: Sharp> Stabber for Memory<S> {
@@ -75,7 +74,7 @@ impl<S: Sharp> Stabber for Memory<S> {
     ghost steady = { Prim.search rules };
 
     fn lets_through(&mut self, path: &[Quad]) -> bool {
-        find(self, path).is_some()
+        self.find(path).is_some()
     }
 }
 
@@ -91,6 +90,6 @@ impl<S: Sharp> Sharp for Memory<S> {
     ghost steady = { Prim.search rules };
 
     fn stabbing_line(&mut self, path: &[Quad]) -> Option<(i32, i32, i32)> {
-        find(self, path)
+        self.find(path)
     }
 }

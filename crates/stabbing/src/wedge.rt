@@ -1,5 +1,5 @@
 // Wedge: a quick stabber that sets only three neighbouring crossings at a time against a line.
-ghost use Rattle.std.specs.Prelude.{◌≡◌, ◌≤◌, length, Decides};
+ghost use Rattle.std.specs.Prelude.{◌≡◌, Decides};
 ghost use Rattle.std.specs.List.{AllByRecursion};
 ghost use Rattle.plane.specs.Limits.{Path};
 ghost use Rattle.plane.specs.Separation.{Stabbed};
@@ -14,15 +14,25 @@ use plane::quad::Quad;
 
 // Whether each three neighbouring crossings have a separating line.
 fn all_neighbours(path: &[Quad]) -> bool
-    requires { 3 ≤ length path.now }
     ensures { result ≡ all_stabbed (neighbours path.now) }
 {
-    for k in 0..path.len() - 2 {
-        if exact_line(&path[k..k + 3]).is_none() {
+    for three in path.windows(3) {
+        if exact_line(three).is_none() {
             return false;
         }
     }
     true
+}
+
+// The same, and for a shorter path whether the whole has one.
+fn all_threes(path: &[Quad]) -> bool
+    ensures { result ≡ all_stabbed (threes path.now) }
+{
+    if path.len() < 3 {
+        exact_line(path).is_some()
+    } else {
+        all_neighbours(path)
+    }
 }
 
 // Whether the path has a separating line for each three neighbouring crossings; a shorter one, for the whole.
@@ -30,13 +40,7 @@ pub fn wedge_lets(path: &[Quad]) -> bool
     ensures value { result ≡ wedge_lets path.now }
     ensures test { Decides result (Path path.now × AllByRecursion Stabbed (threes path.now)) }
 {
-    if !is_path(path) {
-        return false;
-    }
-    if path.len() < 3 {
-        return exact_line(path).is_some();
-    }
-    all_neighbours(path)
+    is_path(path) && all_threes(path)
 }
 
 // Lets through the paths of which each three neighbouring crossings have a separating line.

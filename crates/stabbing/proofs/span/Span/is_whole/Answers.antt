@@ -10,7 +10,6 @@ use Rattle.stabbing.proofs.span.Span.is_whole.Goals as goal
 -- arrows on both sides of the first leave no line where they go round, or where some arrow is against the first
 whole : (c : Then-has_left-2) (l : Coefficients) → Proper l → Fits l c.args.self.now →
     (pos 0 <ℤ turn (vector c.args.self.now.left) (vector c.args.self.now.right)) ⊎ (rise l (vector c.args.self.now.first) ≤ℤ pos 0) → ⊥
-unfolding Fits
 whole c l proper fits third =
     let s = c.args.self.now in
     elim c.if-has_left.branch [
@@ -21,10 +20,8 @@ whole c l proper fits third =
     ]
 
 pub returns-then-self : goal.returns-then-self
-unfolding Fits
 returns-then-self c pinned l proper fits = whole (goal.at.returns-then-self c).Then-has_left-2 l proper fits (inr (fits.3 pinned))
 
 pub returns-else-self : goal.returns-else-self
-unfolding Fits
 returns-else-self c around l proper fits =
     whole (goal.at.returns-else-self c).Then-has_left-2 l proper fits (inl (c.has_left-else-self.ensures.0 around))
