@@ -11,7 +11,7 @@ use arrayvec::ArrayVec;
 use maps::passage::Passage;
 
 // Room for the doorways of the largest plan.
-pub(crate) const MOST_DOORWAYS: usize = 2048;
+const MOST_DOORWAYS: usize = 2048;
 
 // Whether pixel k stands between two rooms, and is open.
 fn is_opening(size: Size, k: usize, pixel: u8) -> bool
