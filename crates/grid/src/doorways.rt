@@ -73,6 +73,7 @@ impl<'a> Plan<'a> {
     }
 
     // The doorways of the plan's openings, in reading order.
+    #[tactic(auto, using(crate::proofs::Openings::opened, crate::proofs::Openings::passed), unfolding(crate::specs::Doorways::openings))]
     pub(crate) fn doorways(&self) -> ArrayVec<Passage, MOST_DOORWAYS>
         ensures { result.items ≡ grid_doorways self.now.size self.now.pixels.now }
     {
