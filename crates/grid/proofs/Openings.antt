@@ -1,5 +1,5 @@
 -- One pixel more of a plan's openings.
-use Rattle.std.proofs.Common.{◌≡◌, ℕ, ◌+◌, true, false, cond, List, [], ◌∷◌, ◌++◌, sym, refl, ap, ◌∙◌, append-nil, add-one}
+use Rattle.std.proofs.Common.{◌≡◌, ℕ, ◌+◌, true, false, cond, List, [], ◌∷◌, ◌++◌, ap, ◌∙◌, append-nil, add-one}
 use Rattle.grid.specs.declared.sizes.Size.{Size}
 use Rattle.grid.specs.Doorways.{opening, openings, passage_at}
 
