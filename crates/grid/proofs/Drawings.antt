@@ -1,10 +1,10 @@
 -- The plan in a space is that in the space's front, and the test of its pixels finds it.
-use Rattle.std.proofs.Common.{◌≡◌, ℕ, zero, suc, ◌+◌, ◌<◌, ◌≤◌, true, cond, ◌&&◌, eqb, ltb, ◌⊎◌, List, [], ◌∷◌, ◌++◌, map, length, get_or, take, sym, refl, ap, ap₂, ◌∙◌, subst, inl, inr, ⊎_elim, zero-add, length-take-le, arith}
-use Rattle.std.specs.List.{list_all, enumerate_from}
+use Rattle.std.proofs.Common.{◌≡◌, ℕ, zero, suc, ◌-◌, ◌<◌, ◌≤◌, true, false, cond, ◌&&◌, eqb, ltb, List, [], ◌∷◌, ◌++◌, length, get_or, take, sym, refl, ap, ap₂, ◌∙◌, subst, inl, inr, ⊎_elim, zero-add, length-take-le, arith}
+use Rattle.std.specs.List.{list_all, enumerate_from, slice_range}
 use Rattle.std.proofs.lemmas.List.{get_or-take, get_or_default, length-take}
 use Rattle.std.proofs.lemmas.List.FromFn.{get_or-enumerate_from, length-enumerate_from}
 use Rattle.std.proofs.lemmas.List.Sums.{AllPass-from_list_all, list_all-from_AllPass}
-use Rattle.std.proofs.lemmas.Bool.{and_parts, and_from, ltb-true, lt-ltb}
+use Rattle.std.proofs.lemmas.Bool.{both_ways, and_parts, and_from, ltb-true, lt-ltb}
 use Rattle.maps.specs.declared.doorway.Doorway.{Doorway}
 use Rattle.grid.specs.declared.sizes.Size.{Size}
 use Rattle.grid.specs.Doorways.{Drawn, Pictured, column, free, opening, openings, passage_at, right_pixel, row}
@@ -49,26 +49,36 @@ module _ (s : Size) where
   openings_front sp n (suc k) h = λ i. openings_front sp n k (omega arith) i ++ cond (opening_front sp n k (omega arith) i) (passage_at s k ∷ []) []
 
   module _ (sp : List ℕ) (long : area s ≤ length sp) where
-    count : length (take (area s) sp) ≡ area s
-    count = length-take-le (area s) sp long
-
     drawn_whole : Drawn s (take (area s) sp) → Drawn s sp
     drawn_whole h = (h.0, long, λ k l. subst (λ p. (p < 2) × Colour s (column s k) (row s k) p) (get_or-take (area s) sp k 0 l) (h.2 k l))
 
     drawn_front : Drawn s sp → Drawn s (take (area s) sp)
     drawn_front h =
-        (h.0, omega (arith, count), λ k l. subst (λ p. (p < 2) × Colour s (column s k) (row s k) p) (sym (get_or-take (area s) sp k 0 l)) (h.2 k l))
-
-    pub is_drawn : Roomy s → list_all (right_pixel s) (enumerate_from 0 (take (area s) sp)) ≡ true → Drawn s (take (area s) sp)
-    is_drawn roomy e = (roomy, omega (arith, count), λ k l. all_right (take (area s) sp) e k (omega (arith, count)))
-
-    pub was_drawn : Drawn s sp → list_all (right_pixel s) (enumerate_from 0 (take (area s) sp)) ≡ true
-    was_drawn h = right_all (take (area s) sp) (λ k l. (drawn_front h).2 k (omega (arith, count)))
+        (h.0, omega (arith, length-take-le (area s) sp long), λ k l. subst (λ p. (p < 2) × Colour s (column s k) (row s k) p) (sym (get_or-take (area s) sp k 0 l)) (h.2 k l))
 
     front_pictured : (rooms : ℕ) (ds : List Doorway) → Pictured s (take (area s) sp) rooms ds → Pictured s sp rooms ds
     front_pictured rooms ds =
         ⊎_elim (λ h. inl (drawn_whole h.0, h.1, h.2 ∙ openings_front sp (area s) (area s) (omega arith)))
         (λ h. inr (λ d. h.0 (drawn_front d), h.1, h.2))
+
+-- the first n bytes of the space, where n is the plan's area
+module _ (s : Size) (sp ps : List ℕ) (n : ℕ) (all : n ≡ area s) (fits : n ≤ length sp) (are : ps ≡ slice_range sp 0 n) where
+  long : area s ≤ length sp
+  long = omega (arith, all, fits)
+
+  front : ps ≡ take (area s) sp
+  front = let same : n - 0 ≡ area s = omega (arith, all) in are ∙ ap (λ k. take k sp) same
+
+  count : length ps ≡ area s
+  count = ap length front ∙ length-take-le (area s) sp long
+
+  pub is_drawn : Roomy s → true ≡ list_all (right_pixel s) (enumerate_from 0 ps) → Drawn s ps
+  is_drawn roomy e = (roomy, omega (arith, count), λ k l. all_right s ps (sym e) k (omega (arith, count)))
+
+  pub not_drawn : false ≡ list_all (right_pixel s) (enumerate_from 0 ps) → Drawn s sp → ⊥
+  not_drawn e h =
+      let d : Drawn s ps = subst (Drawn s) (sym front) (drawn_front s sp long h) in
+      both_ways _ (sym e) (right_all s ps (λ k l. d.2 k (omega (arith, count))))
 
 -- the map of the plan in the space's front is that of the plan in the space
 pub pictured : (s : Size) (sp : List ℕ) (rooms : ℕ) (ds : List Doorway) (s' : Size) (ps : List ℕ) → (s' ≡ s) × (ps ≡ take (area s) sp) → length ps ≡ area s'

@@ -11,7 +11,7 @@ use arrayvec::ArrayVec;
 use maps::passage::Passage;
 
 // Room for the doorways of the largest plan.
-pub(crate) const MOST_DOORWAYS: usize = 2048;
+const MOST_DOORWAYS: usize = 2048;
 
 // Whether pixel k stands between two rooms, and is open.
 fn is_opening(size: Size, k: usize, pixel: u8) -> bool
@@ -73,6 +73,7 @@ impl<'a> Plan<'a> {
     }
 
     // The doorways of the plan's openings, in reading order.
+    #[tactic(auto, using(crate::proofs::Openings::opened, crate::proofs::Openings::passed), unfolding(crate::specs::Doorways::openings))]
     pub(crate) fn doorways(&self) -> ArrayVec<Passage, MOST_DOORWAYS>
         ensures { result.items ≡ grid_doorways self.now.size self.now.pixels.now }
     {

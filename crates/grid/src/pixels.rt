@@ -49,9 +49,8 @@ pub(crate) fn paint(lexer: &mut Lexer, size: Size, space: &mut [u8]) -> Result<(
     ensures same { text_of lexer.new ≡ text_of lexer.old }
     ensures after { space.new ≡ (painted (text_of lexer.old) size (area size) 0 (at_of lexer.old) space.old).space }
 {
-    let total = size.area();
-    for k in 0..total {
-        space[k] = next_pixel(lexer, size, k)?;
+    for (k, pixel) in space[..size.area()].iter_mut().enumerate() {
+        *pixel = next_pixel(lexer, size, k)?;
     }
     Ok(())
 }

@@ -1,6 +1,6 @@
 // A whole plan: its text read into the caller's space.
 ghost use Rattle.std.specs.Prelude.{◌≡◌, ◌≤◌, length};
-ghost use Rattle.grid.specs.Plans.{planned, zeros, answered};
+ghost use Rattle.grid.specs.Plans.{planned, answered};
 ghost use Rattle.grid.specs.Pictures.{Understood};
 ghost use Rattle.grid.specs.Refusals.{Blamed};
 
@@ -28,14 +28,6 @@ fn plan(text: &[u8], space: &mut [u8]) -> Result<Size, Fault>
     Ok(size)
 }
 
-fn clear(space: &mut [u8])
-    ensures { space.new ≡ zeros (length space.old) }
-{
-    for x in space.iter_mut() {
-        *x = 0;
-    }
-}
-
 // Reads the plan in `text` into `space`, one byte for each pixel and then zeros, and answers its size.
 pub fn read(text: &[u8], space: &mut [u8]) -> Result<Size, Fault>
     ensures answer { result ≡ (answered text.now space.old).result }
@@ -46,10 +38,10 @@ pub fn read(text: &[u8], space: &mut [u8]) -> Result<Size, Fault>
     if space.len() < SPACE {
         return Err(Fault::new(Ground::Space, 0));
     }
-    clear(space);
+    space.fill(0);
     let answer = plan(text, space);
     if answer.is_err() {
-        clear(space);
+        space.fill(0);
     }
     answer
 }

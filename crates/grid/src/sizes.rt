@@ -1,13 +1,14 @@
 // The width and the height of a plan, in rooms.
-ghost use Rattle.std.specs.Prelude.{◌≡◌, ◌*◌, ◌<◌, ◌≤◌, IfOk};
+ghost use Rattle.std.specs.Prelude.{◌≡◌, ◌*◌};
 ghost use Rattle.text.specs.Lexing.{text_of, at_of};
 ghost use Rattle.grid.specs.Doorways.{column, row};
-ghost use Rattle.grid.specs.Sizes.{side_of, sided, fitted, sized, Roomy, across, area};
+ghost use Rattle.grid.specs.Sizes.{side_of, sided, fitted, sized, across, area};
 
+use std::marker::Model;
 use text::{Fault, Ground, Lexer, Number};
 
 // At most this many rooms.
-const MOST_ROOMS: usize = 256;
+const MOST_ROOMS: u64 = 256;
 
 // A plan of `w` by `h` rooms.
 #[derive(Clone, Copy, PartialEq, Debug)]
@@ -46,40 +47,56 @@ impl Size {
     }
 }
 
-// The rooms along a side of `n` pixels, with the place of the number.
-fn half(n: Number) -> Result<(usize, usize), Fault>
+// The rooms along a side of a plan, one at least, and the place of the number that gave them. A clause sees the two as a pair.
+#[derive(Drop)]
+struct Side {
+    rooms: u32,
+    place: usize,
+}
+
+impl Model for Side {
+    ghost use Rattle.std.specs.Prelude.{ℕ, ◌≤◌};
+
+    ghost Value = { ℕ × ℕ };
+
+    ghost view = { λ s. (s.rooms, s.place) };
+
+    ghost invariant = { λ s. 1 ≤ s.rooms };
+}
+
+// The rooms along a side of `n` pixels.
+fn half(n: Number) -> Result<Side, Fault>
     ensures answer { result ≡ side_of n }
 {
     if n.magnitude < 3 || n.magnitude % 2 == 0 {
         Err(Fault::new(Ground::Limits, n.start))
     } else {
-        Ok((n.magnitude as usize / 2, n.start))
+        Ok(Side {
+            rooms: n.magnitude / 2,
+            place: n.start,
+        })
     }
 }
 
-fn side(lexer: &mut Lexer) -> Result<(usize, usize), Fault>
+fn next_side(lexer: &mut Lexer) -> Result<Side, Fault>
     ensures answer { result ≡ (sided (text_of lexer.old) (at_of lexer.old)).result }
     ensures stands { at_of lexer.new ≡ (sided (text_of lexer.old) (at_of lexer.old)).at }
     ensures same { text_of lexer.new ≡ text_of lexer.old }
-    ensures bound { IfOk result (λ s. (1 ≤ s.0) × (s.0 < 500000)) }
 {
     let n = lexer.number(false)?;
     half(n)
 }
 
 // The size of w by h rooms.
-fn fit(w: (usize, usize), h: (usize, usize)) -> Result<Size, Fault>
-    requires wide { (1 ≤ w.0) × (w.0 < 500000) }
-    requires tall { (1 ≤ h.0) × (h.0 < 500000) }
+fn fit(w: Side, h: Side) -> Result<Size, Fault>
     ensures answer { result ≡ fitted w h }
-    ensures bound { IfOk result Roomy }
 {
-    if w.0 * h.0 > MOST_ROOMS {
-        Err(Fault::new(Ground::Limits, h.1))
+    if u64::from(w.rooms) * u64::from(h.rooms) > MOST_ROOMS {
+        Err(Fault::new(Ground::Limits, h.place))
     } else {
         Ok(Size {
-            w: w.0 as u16,
-            h: h.0 as u16,
+            w: w.rooms as u16,
+            h: h.rooms as u16,
         })
     }
 }
@@ -88,9 +105,8 @@ pub(crate) fn sizes(lexer: &mut Lexer) -> Result<Size, Fault>
     ensures answer { result ≡ (sized (text_of lexer.old) (at_of lexer.old)).result }
     ensures stands { at_of lexer.new ≡ (sized (text_of lexer.old) (at_of lexer.old)).at }
     ensures same { text_of lexer.new ≡ text_of lexer.old }
-    ensures bound { IfOk result Roomy }
 {
-    let w = side(lexer)?;
-    let h = side(lexer)?;
+    let w = next_side(lexer)?;
+    let h = next_side(lexer)?;
     fit(w, h)
 }

@@ -1,4 +1,4 @@
-use Rattle.std.proofs.Common.{◌≡◌, length, sym, ap, ◌∙◌, arith}
+use Rattle.std.proofs.Common.{length, sym, ap, ◌∙◌}
 use Rattle.grid.proofs.Pictured.{whole_plan}
 use Rattle.grid.proofs.map.whole.Goals as goal
 
