@@ -1,6 +1,6 @@
-use Rattle.std.proofs.Common.{◌≡◌, ◌+◌, ◌-◌, map, length, take, drop, sym, ap, ◌∙◌, arith}
+use Rattle.std.proofs.Common.{◌≡◌, ◌+◌, ◌-◌, length, take, drop, sym, ap, ◌∙◌, arith}
 use Rattle.polygon.specs.Corners.{points}
-use Rattle.polygon.specs.Convexity.{spot, ring, around, clear, all_below}
+use Rattle.polygon.specs.Convexity.{ring, around, clear, all_below}
 use Rattle.polygon.proofs.Turning.{below_none, below_more, below_not, round_clear, convex_is}
 use Rattle.polygon.proofs.convexity.is_convex.Goals as goal
 
@@ -15,8 +15,8 @@ returns-then-not-is_clear c =
     let i = c.loop-i.i in
     let row = c.twice_round-ring.result in
     let e : n ≡ i + n - i = omega arith in
-    let here = round_clear (spot ps) face row c.twice_round-ring.ensures i c.loop-i-test.true (omega arith) in
-    convex_is ps face _ (omega arith) (omega arith) (below_not (clear n (ring ps face)) n i c.loop-i-test.true (sym here ∙ ap (λ k. around (map (spot ps) (take k (drop i row)))) e ∙ sym c.if-not-is_clear.ensures))
+    let here = round_clear ps face row c.twice_round-ring.ensures i c.loop-i-test.true (omega arith) in
+    convex_is ps face _ (omega arith) (omega arith) (below_not (clear n (ring ps face)) n i c.loop-i-test.true (sym here ∙ ap (λ k. around (points (take k (drop i row)))) e ∙ sym c.if-not-is_clear.ensures))
 
 pub loop-i-preserved : goal.loop-i-preserved
 loop-i-preserved c =
@@ -26,8 +26,8 @@ loop-i-preserved c =
     let i = c.loop-i.i in
     let row = c.twice_round-ring.result in
     let e : n ≡ i + n - i = omega arith in
-    let here = round_clear (spot ps) face row c.twice_round-ring.ensures i c.loop-i-test.true (omega arith) in
-    below_more (clear n (ring ps face)) i c.loop-i.invariant (sym here ∙ ap (λ k. around (map (spot ps) (take k (drop i row)))) e ∙ sym c.if-not-is_clear.ensures)
+    let here = round_clear ps face row c.twice_round-ring.ensures i c.loop-i-test.true (omega arith) in
+    below_more (clear n (ring ps face)) i c.loop-i.invariant (sym here ∙ ap (λ k. around (points (take k (drop i row)))) e ∙ sym c.if-not-is_clear.ensures)
 
 pub returns : goal.returns
 returns c =
