@@ -4,6 +4,7 @@ pub mod Directions
 pub mod Clockwise
 pub mod TwoPosts
 pub mod Products
+pub mod Values
 pub mod Tests
 pub mod Through
 pub mod StoredLine
