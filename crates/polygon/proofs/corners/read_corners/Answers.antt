@@ -1,5 +1,5 @@
-use Rattle.std.proofs.Common.{◌≡◌, ◌+◌, ◌-◌, ◌<◌, ◌++◌, length, drop, Err, sym, refl, ap, ◌∙◌, w32, SFits, arith, rules}
-use Rattle.std.proofs.lemmas.List.{take-append-drop, set-append_left, set-get_or, length-take-le}
+use Rattle.std.proofs.Common.{◌≡◌, ◌-◌, ◌<◌, ◌++◌, length, drop, Err, sym, refl, ap, ◌∙◌, w32, SFits, arith, rules}
+use Rattle.std.proofs.lemmas.List.{take-append-drop, set-get_or, length-take-le}
 use Rattle.std.proofs.lemmas.Result.{err_from_is_err_and}
 use Rattle.std.proofs.lemmas.Int.{to_z-of_z}
 use Rattle.text.specs.Lexing.{text_of, at_of}
