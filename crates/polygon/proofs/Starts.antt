@@ -18,9 +18,6 @@ module _ (t : List ℕ) (long : 3 ≤ length t) (first : get_or t 0 0 ≡ 79) (s
       cond-true _ (spaced 3 (drop 3 t)) (Err (fault Heading 0))
       (and_from (leb 3 (length t)) _ (le-leb 3 (length t) long) (and_from (eqb (get_or t 0 0) 79) _ (eq-eqb (get_or t 0 0) 79 first) (and_from (eqb (get_or t 1 0) 70) (eqb (get_or t 2 0) 70) (eq-eqb (get_or t 1 0) 70 second) (eq-eqb (get_or t 2 0) 70 third))))
 
-  pub heading_is : (r : Result ℕ Fault) → r ≡ spaced 3 (take (length t - 3) (drop 3 t)) → r ≡ headed t
-  heading_is r e = e ∙ ap (spaced 3) (take_rest t 3) ∙ sym headed_is
-
 -- a heading that is read stands there, with white space behind it
 spaced_was : (bs : List ℕ) (p : ℕ) → spaced 3 bs ≡ Ok p → (p ≡ 3) × Ends bs × (0 < length bs)
 spaced_was [] p e = let z : ◌≡◌ {A = ℕ} 0 1 = cc in absurd (omega arith)

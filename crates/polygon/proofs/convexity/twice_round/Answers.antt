@@ -4,9 +4,6 @@ use Rattle.polygon.proofs.Fillings.{map_set}
 use Rattle.polygon.proofs.Rounds.{Laid, laid_more, laid_all}
 use Rattle.polygon.proofs.convexity.twice_round.Goals as goal
 
-pub loop-k-init : goal.loop-k-init
-loop-k-init c = record { room = omega arith; once = λ j b. absurd (omega arith); again = λ j b. absurd (omega arith) }
-
 pub loop-k-preserved : goal.loop-k-preserved
 loop-k-preserved c =
     let ps = points c.args.corners.now in

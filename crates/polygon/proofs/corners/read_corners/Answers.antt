@@ -9,13 +9,6 @@ use Rattle.polygon.proofs.Fillings.{loop_err, loop_end}
 use Rattle.polygon.proofs.Steps.{corner_step}
 use Rattle.polygon.proofs.corners.read_corners.Goals as goal
 
-pub loop-place-init : goal.loop-place-init
-loop-place-init c =
-    let all : c.args.total - 0 ≡ c.args.total = omega arith in (
-      (λ i. filled (corner (text_of c.args.lexer.now)) (all i) 0 (at_of c.args.lexer.now) (points (take-append-drop c.args.total c.args.space.now i))),
-      refl,
-    )
-
 pub returns-in_err-x : goal.returns-in_err-x
 returns-in_err-x c =
     let x = c.loop-place.lexer in

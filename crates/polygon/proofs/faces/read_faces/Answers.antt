@@ -7,14 +7,6 @@ use Rattle.polygon.proofs.Facings.{loop_unsized, loop_faces}
 use Rattle.polygon.proofs.Steps.{face_step, face_stop}
 use Rattle.polygon.proofs.faces.read_faces.Goals as goal
 
-pub loop-place-init : goal.loop-place-init
-loop-place-init c =
-    let all : c.args.total - 0 ≡ c.args.total = omega arith in (
-      (λ i. faced (text_of c.args.lexer.now) c.args.limit (all i) 0 0 (at_of c.args.lexer.now) (take-append-drop c.args.total c.args.sizes.now i) c.args.numbers.now),
-      refl,
-      omega arith,
-    )
-
 pub returns-in_err-size : goal.returns-in_err-size
 returns-in_err-size c =
     let x = c.loop-place.lexer in
