@@ -1,5 +1,5 @@
 -- One more element read into a space, by what its reading answers.
-use Rattle.std.proofs.Common.{◌≡◌, ℕ, zero, suc, ◌+◌, ◌-◌, ◌<◌, ◌≤◌, List, [], ◌∷◌, ◌++◌, map, length, set, Ok, Err, Result, sym, refl, ap, ◌∙◌, arith, length-set}
+use Rattle.std.proofs.Common.{◌≡◌, ℕ, zero, suc, ◌+◌, ◌-◌, ◌<◌, ◌≤◌, List, ◌++◌, length, set, Ok, Err, Result, sym, refl, ap, ◌∙◌, arith, length-set}
 use Rattle.std.proofs.lemmas.List.{set-append_left, set-append_right}
 use Rattle.text.specs.declared.faults.Fault.{Fault}
 use Rattle.text.specs.Lexing.{Out}
@@ -55,8 +55,3 @@ module _ {A : Type 0} (one : ℕ → Out A) (front behind : List A) where
           let back : length front + k - length front ≡ k = omega arith in
           let written = set-append_right front (sp ++ behind) (length front) (length front + k) v refl (omega arith) ∙ ap (λ j. front ++ set (sp ++ behind) j v) back ∙ ap (λ l. front ++ l) (set-append_left sp behind k v (omega (arith, h))) in
           (λ i. filled one n (e i) (one at).at (written i)) ∙ more v (omega (arith, h, length-set sp k v))
-
-pub map_set : {A B : Type 0} (f : A → B) (xs : List A) (i : ℕ) (x : A) → map f (set xs i x) ≡ set (map f xs) i (f x)
-map_set f [] i x = refl
-map_set f (a ∷ xs) zero x = refl
-map_set f (a ∷ xs) (suc i) x = ap (λ l. f a ∷ l) (map_set f xs i x)

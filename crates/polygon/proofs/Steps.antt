@@ -1,6 +1,6 @@
 -- One turn of each loop that reads, with the lexer's text and place as they stand before and after it.
 use Rattle.std.proofs.Common.{◌≡◌, ℕ, ◌+◌, ◌-◌, ◌<◌, ◌≤◌, List, ◌++◌, length, take, drop, set, Ok, Err, sym, refl, ap, ◌∙◌, arith}
-use Rattle.std.proofs.lemmas.List.{set-append_left, length-take-le, length-drop}
+use Rattle.std.proofs.lemmas.List.{map-set, set-append_left, length-take-le, length-drop}
 use borrow.Rule.Slice.PartMut.{put_mid, mid_of, post_of, put_same}
 use Rattle.text.specs.declared.faults.Fault.{Fault}
 use Rattle.plane.specs.declared.corner.Corner.{Corner}
@@ -8,14 +8,14 @@ use Rattle.plane.specs.Separation.{Point}
 use Rattle.polygon.specs.Outs.{Filling, filled}
 use Rattle.polygon.specs.Corners.{point, points, corner}
 use Rattle.polygon.specs.Faces.{number, size, Facing, faced}
-use Rattle.polygon.proofs.Fillings.{loop_ok, inside, filled_inside, map_set}
+use Rattle.polygon.proofs.Fillings.{loop_ok, inside, filled_inside}
 use Rattle.polygon.proofs.Facings.{loop_face, loop_unlisted}
 
 pub corner_step : (t t1 : List ℕ) (total k at at1 : ℕ) (items rest : List Corner) (o : Filling Point) (c : Corner) (v : Point)
     → filled (corner t) (total - k) k at (points (items ++ rest)) ≡ o → k < total → k < length items → t1 ≡ t → at1 ≡ (corner t at).at → (corner t at).result ≡ Ok v → point c ≡ v
     → filled (corner t1) (total - (k + 1)) (k + 1) at1 (points (set items k c ++ rest)) ≡ o
 corner_step t t1 total k at at1 items rest o c v is h here same stands e p =
-    let written = ap points (sym (set-append_left items rest k c here)) ∙ map_set point (items ++ rest) k c ∙ ap (set (points (items ++ rest)) k) p in
+    let written = ap points (sym (set-append_left items rest k c here)) ∙ map-set point (items ++ rest) k c ∙ ap (set (points (items ++ rest)) k) p in
     (λ i. filled (corner (same i)) (total - (k + 1)) (k + 1) (stands i) (written i))
     ∙ loop_ok (corner t) total k k at (points (items ++ rest)) o is h v e (k + 1) refl
 

@@ -1,6 +1,6 @@
 use Rattle.std.proofs.Common.{◌≡◌, ◌+◌, ◌-◌, length, take, drop, sym, ap, ◌∙◌, arith}
 use Rattle.polygon.specs.Corners.{points}
-use Rattle.polygon.specs.Convexity.{ring, around, clear, all_below}
+use Rattle.polygon.specs.Convexity.{ring, around, clear}
 use Rattle.polygon.proofs.Turning.{below_none, below_more, below_not, round_clear, convex_is}
 use Rattle.polygon.proofs.convexity.is_convex.Goals as goal
 

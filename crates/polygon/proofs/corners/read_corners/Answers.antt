@@ -1,10 +1,8 @@
-use Rattle.std.proofs.Common.{◌≡◌, ◌-◌, ◌<◌, ◌++◌, length, drop, Err, sym, refl, ap, ◌∙◌, w32, SFits, arith, rules}
-use Rattle.std.proofs.lemmas.List.{take-append-drop, set-get_or, length-take-le}
+use Rattle.std.proofs.Common.{◌≡◌, ◌<◌, ◌++◌, length, drop, Err, sym, ap, ◌∙◌, w32, SFits, arith, rules}
+use Rattle.std.proofs.lemmas.List.{set-get_or, length-take-le}
 use Rattle.std.proofs.lemmas.Result.{err_from_is_err_and}
 use Rattle.std.proofs.lemmas.Int.{to_z-of_z}
-use Rattle.text.specs.Lexing.{text_of, at_of}
 use Rattle.polygon.specs.Corners.{points, corner}
-use Rattle.polygon.specs.Outs.{filled}
 use Rattle.polygon.proofs.Fillings.{loop_err, loop_end}
 use Rattle.polygon.proofs.Steps.{corner_step}
 use Rattle.polygon.proofs.corners.read_corners.Goals as goal

@@ -1,4 +1,4 @@
-use Rattle.std.proofs.Common.{◌≡◌, ℕ, ◌+◌, List, length, Some, sym, refl, ◌∙◌, subst, arith}
+use Rattle.std.proofs.Common.{◌≡◌, ℕ, ◌+◌, List, Some, sym, refl, ◌∙◌, subst, arith}
 use Rattle.maps.specs.declared.passage.Passage.{Passage}
 use Rattle.polygon.specs.Corners.{points}
 use Rattle.polygon.specs.Doorways.{added, doorways, Holds}

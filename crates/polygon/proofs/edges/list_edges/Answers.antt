@@ -1,7 +1,5 @@
-use Rattle.std.proofs.Common.{get_or, ◌++◌, length, ap, ◌∙◌, arith}
-use Rattle.std.proofs.lemmas.List.{length-take}
-use Rattle.polygon.specs.Edges.{all_edges}
-use Rattle.polygon.proofs.Listing.{faces_step, faces_many, faces_end}
+use Rattle.std.proofs.Common.{◌∙◌}
+use Rattle.polygon.proofs.Listing.{faces_step, faces_many}
 use Rattle.polygon.proofs.edges.list_edges.Goals as goal
 
 pub loop-f-preserved : goal.loop-f-preserved

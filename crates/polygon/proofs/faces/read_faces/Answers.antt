@@ -1,8 +1,6 @@
-use Rattle.std.proofs.Common.{◌≡◌, ◌-◌, ◌*◌, ◌<◌, ◌≤◌, ◌++◌, length, drop, is_err, Err, sym, refl, ap, ◌∙◌, arith}
-use Rattle.std.proofs.lemmas.List.{take-append-drop, set-get_or, length-take-le}
+use Rattle.std.proofs.Common.{◌*◌, ◌<◌, ◌≤◌, ◌++◌, length, drop, is_err, Err, sym, ap, ◌∙◌, arith}
+use Rattle.std.proofs.lemmas.List.{set-get_or, length-take-le}
 use Rattle.std.proofs.lemmas.Result.{err_from_is_err_and, IfOk-from_err}
-use Rattle.text.specs.Lexing.{text_of, at_of}
-use Rattle.polygon.specs.Faces.{faced}
 use Rattle.polygon.proofs.Facings.{loop_unsized, loop_faces}
 use Rattle.polygon.proofs.Steps.{face_step, face_stop}
 use Rattle.polygon.proofs.faces.read_faces.Goals as goal

@@ -1,4 +1,4 @@
-use Rattle.std.proofs.Common.{◌≡◌, ◌-◌, take, sym, ◌∙◌, arith, rules}
+use Rattle.std.proofs.Common.{◌≡◌, ◌-◌, take, sym, ◌∙◌, arith}
 use Rattle.polygon.specs.Convexity.{shapely}
 use Rattle.polygon.specs.Corners.{points}
 use Rattle.polygon.specs.Plans.{opened}
