@@ -18,11 +18,9 @@ use Rattle.polygon.specs.Edges.{edges_to, all_edges}
 use Rattle.polygon.specs.Layouts.{Layout, laid}
 use Rattle.polygon.specs.Plans.{at_once, opened_by}
 use Rattle.polygon.proofs.Listing.{face_edges}
+use Rattle.polygon.proofs.Readers.{no}
 use Rattle.polygon.proofs.Rounds.{convex_so}
 use Rattle.polygon.proofs.Shared.{distinct_is, doors_are, doors_half}
-
-never : {A : Type 0} {f : Fault} {n : A} → ◌≡◌ {A = Result A Fault} (Err f) (Ok n) → ⊥
-never e = let z : ◌≡◌ {A = ℕ} 0 1 = cc in omega arith
 
 shapes_so : (ps : List Point) (k : ℕ) (ss ns : List ℕ) → shapely ps k ss ns ≡ Ok tt → Faces ps ss ns
 shapes_so ps k [] ns e = tt
@@ -30,7 +28,7 @@ shapes_so ps k (s ∷ ss) ns e = go (cases_Bool (convex ps (take s ns))) (shapes
   where
     go : (convex ps (take s ns) ≡ true) ⊎ (convex ps (take s ns) ≡ false) → (shapely ps (k + 1) ss (drop s ns) ≡ Ok tt → Faces ps ss (drop s ns)) → Convex ps (take s ns) × Faces ps ss (drop s ns)
     go (inl t) more = (convex_so ps (take s ns) t, more (sym (cond-true (convex ps (take s ns)) (shapely ps (k + 1) ss (drop s ns)) (Err (fault Shape k)) t) ∙ e))
-    go (inr f) more = absurd (never (sym (cond-false (convex ps (take s ns)) (shapely ps (k + 1) ss (drop s ns)) (Err (fault Shape k)) f) ∙ e))
+    go (inr f) more = no (sym (cond-false (convex ps (take s ns)) (shapely ps (k + 1) ss (drop s ns)) (Err (fault Shape k)) f) ∙ e)
 
 -- all faces have no more edges than there are corner numbers
 all_few : (k : ℕ) (ss ns : List ℕ) → length (all_edges k ss ns) ≤ length ns
@@ -54,7 +52,7 @@ module _ (t : List ℕ) (ds0 : List Passage) (ps0 : List Point) (ns0 : List ℕ)
     accepts shapes k ds e s = go (once row (length row) 0) refl e s
       where
         go : (o : Result (Unit {0}) Fault) → once row (length row) 0 ≡ o → (at_once ps row o ds0).result ≡ Ok k → ds ≡ (at_once ps row o ds0).space → Accepted t ds0 ps0 ns0 (record { rooms = p.faces; doorways = k }) ds ps ns
-        go (Err f) bad r d = absurd (never r)
+        go (Err f) bad r d = no r
         go (Ok u) ok r d =
             let apart = distinct_is row ok in
             let counted : k ≡ length (doorways ps row (length row)) = cc in

@@ -22,7 +22,7 @@ limited_was : (g : Ground) (least below : ℕ) (n : Number) (v : ℕ) → limite
 limited_was g least below n v = go (ltb n.magnitude least || leb below n.magnitude) refl
   where
     go : (b : Bool) → (ltb n.magnitude least || leb below n.magnitude) ≡ b → cond b (Err (fault g n.start)) (Ok n.magnitude) ≡ Ok v → (n.magnitude ≡ v) × (least ≤ v) × (v < below)
-    go true t e = let z : ◌≡◌ {A = ℕ} 0 1 = cc in absurd (omega arith)
+    go true t e = cc
     go false t e =
         let same : n.magnitude ≡ v = cc in
         let p = or_parts (ltb n.magnitude least) (leb below n.magnitude) t in

@@ -1,5 +1,6 @@
 -- One more element read into a space, by what its reading answers.
-use Rattle.std.proofs.Common.{◌≡◌, ℕ, zero, suc, ◌+◌, ◌-◌, ◌<◌, ◌≤◌, List, [], ◌∷◌, map, set, Ok, Err, sym, refl, ap, ◌∙◌, arith}
+use Rattle.std.proofs.Common.{◌≡◌, ℕ, zero, suc, ◌+◌, ◌-◌, ◌<◌, ◌≤◌, List, ◌++◌, length, set, Ok, Err, Result, sym, refl, ap, ◌∙◌, arith, length-set}
+use Rattle.std.proofs.lemmas.List.{set-append_left, set-append_right}
 use Rattle.text.specs.declared.faults.Fault.{Fault}
 use Rattle.text.specs.Lexing.{Out}
 use Rattle.polygon.specs.Outs.{Filling, put, filled}
@@ -36,7 +37,21 @@ module _ {A : Type 0} (one : ℕ → Out A) where
         let p = sym (fill_none k at sp) ∙ ap (λ n. filled one n k at sp) e ∙ is in
         (ap (λ x. x.result) p, ap (λ x. x.at) p, ap (λ x. x.space) p)
 
-pub map_set : {A B : Type 0} (f : A → B) (xs : List A) (i : ℕ) (x : A) → map f (set xs i x) ≡ set (map f xs) i (f x)
-map_set f [] i x = refl
-map_set f (a ∷ xs) zero x = refl
-map_set f (a ∷ xs) (suc i) x = ap (λ l. f a ∷ l) (map_set f xs i x)
+-- a part of a space filled by itself
+module _ {A : Type 0} (one : ℕ → Out A) (front behind : List A) where
+  abbrev pub inside : Filling A → Filling A
+  inside o = record { result = o.result; at = o.at; space = front ++ (o.space ++ behind) }
+
+  pub filled_inside : (n k at : ℕ) (sp : List A) → k + n ≤ length sp → filled one n (length front + k) at (front ++ (sp ++ behind)) ≡ inside (filled one n k at sp)
+  filled_inside zero k at sp h = fill_none one (length front + k) at (front ++ (sp ++ behind)) ∙ sym (ap inside (fill_none one k at sp))
+  filled_inside (suc n) k at sp h =
+      fill_more one n (length front + k) at (front ++ (sp ++ behind)) ∙ go (one at).result (λ v l. filled_inside n (k + 1) (one at).at (set sp k v) l) ∙ sym (ap inside (fill_more one n k at sp))
+    where
+      go : (r : Result A Fault) → ((v : A) → k + 1 + n ≤ length (set sp k v) → filled one n (length front + (k + 1)) (one at).at (front ++ (set sp k v ++ behind)) ≡ inside (filled one n (k + 1) (one at).at (set sp k v)))
+          → put r (one at).at (front ++ (sp ++ behind)) (λ v. filled one n (length front + k + 1) (one at).at (set (front ++ (sp ++ behind)) (length front + k) v)) ≡ inside (put r (one at).at sp (λ v. filled one n (k + 1) (one at).at (set sp k v)))
+      go (Err e) more = refl
+      go (Ok v) more =
+          let e : length front + k + 1 ≡ length front + (k + 1) = omega arith in
+          let back : length front + k - length front ≡ k = omega arith in
+          let written = set-append_right front (sp ++ behind) (length front) (length front + k) v refl (omega arith) ∙ ap (λ j. front ++ set (sp ++ behind) j v) back ∙ ap (λ l. front ++ l) (set-append_left sp behind k v (omega (arith, h))) in
+          (λ i. filled one n (e i) (one at).at (written i)) ∙ more v (omega (arith, h, length-set sp k v))

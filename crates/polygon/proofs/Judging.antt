@@ -72,7 +72,7 @@ module _ (ps : List Point) where
     where
       go : (convex ps f ≡ true) ⊎ (convex ps f ≡ false) → (shapes (k + 1) fs ≡ Ok tt → AllByRecursion (Convex ps) fs) → Convex ps f × AllByRecursion (Convex ps) fs
       go (inl t) more = (convex_so ps f t, more (sym (cond-true (convex ps f) (shapes (k + 1) fs) (Err (fault Shape k)) t) ∙ sym (shape_more k f fs) ∙ e))
-      go (inr n) more = let q = sym (cond-false (convex ps f) (shapes (k + 1) fs) (Err (fault Shape k)) n) ∙ sym (shape_more k f fs) ∙ e in let z : ◌≡◌ {A = ℕ} 0 1 = cc in absurd (omega arith)
+      go (inr n) more = let q = sym (cond-false (convex ps f) (shapes (k + 1) fs) (Err (fault Shape k)) n) ∙ sym (shape_more k f fs) ∙ e in cc
 
   pub record Bend (k : ℕ) (fs : List (List ℕ)) (e : Fault) : Type 0 where
     pub face : ℕ
@@ -82,7 +82,7 @@ module _ (ps : List Point) where
     pub bent : Convex ps (get_or fs face []) → ⊥
 
   pub shapes_bent : (k : ℕ) (fs : List (List ℕ)) (e : Fault) → shapes k fs ≡ Err e → Bend k fs e
-  shapes_bent k [] e h = let z : ◌≡◌ {A = ℕ} 0 1 = cc in absurd (omega arith)
+  shapes_bent k [] e h = cc
   shapes_bent k (f ∷ fs) e h = go (cases_Bool (convex ps f)) (shapes_bent (k + 1) fs e)
     where
       go : (convex ps f ≡ true) ⊎ (convex ps f ≡ false) → (shapes (k + 1) fs ≡ Err e → Bend (k + 1) fs e) → Bend k (f ∷ fs) e

@@ -1,6 +1,7 @@
 -- Edges and doorways listed one by one.
 use Rattle.std.proofs.Common.{◌≡◌, ℕ, zero, suc, ◌+◌, ◌<◌, ◌≤◌, ltb, List, [], ◌∷◌, ◌++◌, length, get_or, take, drop, set, Some, Option, sym, refl, ap, ◌∙◌, subst, add-one, arith, length-append}
 use Rattle.std.proofs.lemmas.List.{append_assoc, append-nil, at_drop_more, at_drop_all, length-take, length-drop, drop_more}
+use Rattle.std.proofs.Math.Seq.{set-append_seam}
 use Rattle.std.proofs.lemmas.Bool.{cond-true, cond-false, lt-ltb, le-ltb}
 use Rattle.plane.specs.Separation.{Point}
 use Rattle.polygon.specs.declared.edge.Edge.{Edge}
@@ -54,10 +55,6 @@ module _ (ps : List Point) (es : List Edge) where
   pub doors_more : (k : ℕ) (o : Option Passage) → o ≡ shared ps es k → doorways ps es (k + 1) ≡ added (doorways ps es k) o
   doors_more k o e = ap (doorways ps es) (add-one k) ∙ doors_suc k ∙ ap (added (doorways ps es k)) (sym e)
 
-set_behind : (xs : List Passage) (y : Passage) (ys : List Passage) (n : ℕ) (p : Passage) → n ≡ length xs → set (xs ++ y ∷ ys) n p ≡ (xs ++ p ∷ []) ++ ys
-set_behind [] y ys n p e = ap (λ k. set (y ∷ ys) k p) e
-set_behind (x ∷ xs) y ys n p e = ap (λ k. set (x ∷ (xs ++ y ∷ ys)) k p) e ∙ ap (λ l. x ∷ l) (set_behind xs y ys (length xs) p refl)
-
 module _ (space space0 : List Passage) (count : ℕ) (ds : List Passage) (so : Holds space space0 count ds) where
   pub held_more : (p : Passage) → count < 2048 → Holds (set space count p) space0 (count + 1) (added ds (Some p))
   held_more p h =
@@ -65,7 +62,7 @@ module _ (space space0 : List Passage) (count : ℕ) (ds : List Passage) (so : H
       subst (Holds (set space count p) space0 (count + 1)) same
       (record {
         counts = omega (arith, so.counts, length-append ds (p ∷ []));
-        has = ap (λ l. set l count p) (so.has ∙ ap (λ l. ds ++ l) (drop_more space0 count p (omega (arith, so.room)))) ∙ set_behind ds _ (drop (count + 1) space0) count p so.counts;
+        has = ap (λ l. set l count p) (so.has ∙ ap (λ l. ds ++ l) (drop_more space0 count p (omega (arith, so.room)))) ∙ ap (λ k. set (ds ++ get_or space0 count p ∷ drop (count + 1) space0) k p) so.counts ∙ set-append_seam ds _ (drop (count + 1) space0) p ∙ sym (append_assoc ds (p ∷ []) (drop (count + 1) space0));
         most = omega arith;
         room = so.room;
       })

@@ -1,5 +1,5 @@
 -- Readings that are sound and complete for a way of spelling, joined and repeated.
-use Rattle.std.proofs.Common.{◌≡◌, ℕ, zero, suc, ◌+◌, List, [], ◌∷◌, length, drop, set, Ok, Err, Result, sym, refl, ap, ◌∙◌, subst, add-one, arith}
+use Rattle.std.proofs.Common.{◌≡◌, ℕ, zero, suc, ◌+◌, List, [], ◌∷◌, length, drop, set, Ok, Err, Result, sym, refl, ap, ◌∙◌, subst, add-one}
 use lib.Seq.{sets}
 use Rattle.std.specs.List.{AllByRecursion}
 use Rattle.text.specs.declared.faults.Fault.{Fault}
@@ -11,7 +11,7 @@ use Rattle.polygon.proofs.Fillings.{fill_none, fill_ok, fill_err}
 
 -- a value is no fault
 pub no : {A B : Type 0} {f : Fault} {a : A} → ◌≡◌ {A = Result A Fault} (Err f) (Ok a) → B
-no e = let z : ◌≡◌ {A = ℕ} 0 1 = cc in absurd (omega arith)
+no e = cc
 
 pub never : {A B : Type 0} {f : Fault} {a : A} → ◌≡◌ {A = Result A Fault} (Ok a) (Err f) → B
 never e = no (sym e)

@@ -1,6 +1,6 @@
 -- A face passes the test of convexity exactly when it is convex.
-use Rattle.std.proofs.Common.{◌≡◌, ℕ, zero, suc, ◌+◌, ◌-◌, ◌/◌, ◌<◌, ◌≤◌, Bool, true, false, not, ◌&&◌, T, ltb, leb, ◌⊎◌, List, map, length, get_or, take, drop, pos, ◌<ℤ◌, sym, refl, ap, ◌∙◌, subst, inl, inr, arith}
-use Rattle.std.proofs.lemmas.List.{length-map, length-append, length-take-le, length-drop, get_or_append_left, get_or-append_right, get_or-map, get_or-take, get_or-drop}
+use Rattle.std.proofs.Common.{◌≡◌, ℕ, zero, suc, ◌+◌, ◌-◌, ◌/◌, ◌<◌, ◌≤◌, Bool, true, false, not, ◌&&◌, T, ltb, leb, ◌⊎◌, List, map, length, get_or, take, drop, pos, ◌<ℤ◌, set, ◌≢◌, sym, refl, ap, ◌∙◌, subst, inl, inr, arith, length-set, get_or-set_other, get_or-set_same}
+use Rattle.std.proofs.lemmas.List.{length-map, length-append, length-take-le, length-drop, get_or_append_left, get_or-append_right, get_or-map, get_or-take, get_or-drop, same_lists, get_or_default}
 use Rattle.std.proofs.lemmas.Bool.{and_parts, and_from, not_from_false, leb-true, le-leb, cases_lt, cases_eq, cases_Bool, cond-true, cond-false, lt-ltb, le-ltb}
 use Rattle.plane.specs.Lines.{through}
 use Rattle.plane.specs.Separation.{Point, value}
@@ -55,6 +55,52 @@ module _ (ps : List Point) (face : List ℕ) where
   high k h =
       let back : n + k - n ≡ k = omega arith in
       get_or-append_right once_round once_round n (n + k) z (length-map face (spot ps)) (omega arith) ∙ ap (λ m. get_or once_round m z) back ∙ get_or-map (spot ps) face k 0 z h
+
+  -- the corners of the places below k stand in both rounds
+  pub record Laid (row : List Point) (k : ℕ) : Type 0 where
+    pub room : n + n ≤ length row
+    pub once : (j : ℕ) → j < k → get_or row j z ≡ corner_of ps face j
+    pub again : (j : ℕ) → j < k → get_or row (n + j) z ≡ corner_of ps face j
+
+  pub laid_more : (row : List Point) (k : ℕ) (p : Point) → k < n → p ≡ corner_of ps face k → Laid row k → Laid (set (set row k p) (n + k) p) (k + 1)
+  laid_more row k p h is so =
+      record {
+        room = omega (arith, room, length-set row k p, length-set (set row k p) (n + k) p);
+        once = λ j b. other j (λ e. omega arith) ∙ first j b (cases_eq j k);
+        again = λ j b. second j b (cases_eq j k);
+      }
+    where
+      room : n + n ≤ length row
+      room = so.room
+
+      other : (j : ℕ) → (j ≡ n + k → ⊥) → get_or (set (set row k p) (n + k) p) j z ≡ get_or (set row k p) j z
+      other j d = let ne : j ≢ n + k = d in rw get_or-set_other
+
+      first : (j : ℕ) → j < k + 1 → (j ≡ k) ⊎ (j ≡ k → ⊥) → get_or (set row k p) j z ≡ corner_of ps face j
+      first j b (inl e) = let lt : k < length row = omega arith in ap (λ m. get_or (set row k p) m z) e ∙ rw get_or-set_same (is ∙ ap (corner_of ps face) (sym e))
+      first j b (inr d) = let ne : j ≢ k = d in rw get_or-set_other (so.once j (omega arith))
+
+      second : (j : ℕ) → j < k + 1 → (j ≡ k) ⊎ (j ≡ k → ⊥) → get_or (set (set row k p) (n + k) p) (n + j) z ≡ corner_of ps face j
+      second j b (inl e) = let lt : n + k < length (set row k p) = omega (arith, length-set row k p) in ap (λ m. get_or (set (set row k p) (n + k) p) (n + m) z) e ∙ rw get_or-set_same (is ∙ ap (corner_of ps face) (sym e))
+      second j b (inr d) =
+          let one : n + j ≢ n + k = λ e. d (omega arith) in
+          let two : n + j ≢ k = λ e. omega arith in
+          rw get_or-set_other (rw get_or-set_other (so.again j (omega arith)))
+
+  pub laid_all : (row : List Point) (k : ℕ) → n ≤ k → Laid row k → take (n + n) row ≡ ring ps face
+  laid_all row k h so =
+      same_lists (take (n + n) row) (ring ps face) (omega (arith, taken, long))
+      (λ j d b. let below : j < n + n = omega (arith, taken) in
+      get_or_default (take (n + n) row) j d z b ∙ get_or-take (n + n) row j z below ∙ place j below (cases_lt j n) ∙ get_or_default (ring ps face) j z d (omega (arith, long)))
+    where
+      taken : length (take (n + n) row) ≡ n + n
+      taken = length-take-le (n + n) row so.room
+
+      place : (j : ℕ) → j < n + n → (j < n) ⊎ (n ≤ j) → get_or row j z ≡ get_or (ring ps face) j z
+      place j b (inl l) = so.once j (omega arith) ∙ sym (low j l)
+      place j b (inr l) =
+          let e : j ≡ n + (j - n) = omega arith in
+          ap (λ m. get_or row m z) e ∙ so.again (j - n) (omega arith) ∙ sym (high (j - n) (omega arith)) ∙ ap (λ m. get_or (ring ps face) m z) (sym e)
 
   module _ (big : 3 ≤ n) (i : ℕ) (in_face : i < n) where
     behind : get_or (ring ps face) (i + 1) z ≡ corner_of ps face (after face i)

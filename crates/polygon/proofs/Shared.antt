@@ -70,7 +70,7 @@ module _ (es : List Edge) where
     pub others : (i : ℕ) → k ≤ i → i < edge → Repeats es i → ⊥
 
   pub once_first : (n k : ℕ) (f : Fault) → once es n k ≡ Err f → First n k f
-  once_first zero k f e = let q = sym (once_none es k) ∙ e in let z : ◌≡◌ {A = ℕ} 0 1 = cc in absurd (omega arith)
+  once_first zero k f e = let q = sym (once_none es k) ∙ e in cc
   once_first (suc n) k f e = go (same_before k) refl (once_first n (k + 1) f)
     where
       bad : Result (Unit {0}) Fault

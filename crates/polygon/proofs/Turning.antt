@@ -1,10 +1,15 @@
 -- A face's round from each of its places.
-use Rattle.std.proofs.Common.{◌≡◌, ℕ, zero, suc, ◌+◌, ◌-◌, ◌/◌, ◌<◌, ◌≤◌, Bool, true, false, cond, not, ◌&&◌, leb, ◌⊎◌, ◌↔◌, List, [], ◌∷◌, ◌++◌, map, length, get_or, take, drop, pos, Some, None, Option, IsTrue, EachIndex, sym, refl, ap, ◌∙◌, inl, inr, add-one, arith}
-use Rattle.std.proofs.lemmas.List.{length-map, length-append, map-append, take-append-drop, take-append-le, drop-take, get_or-map, take-map, drop-map, drop_more}
-use Rattle.std.proofs.lemmas.Bool.{and_from, and_parts, and_left, and_right, le-leb, cases_Bool, cases_eq, both_ways}
+use Rattle.std.proofs.Common.{◌≡◌, ℕ, zero, suc, ◌+◌, ◌-◌, ◌/◌, ◌<◌, ◌≤◌, Bool, true, false, cond, not, ◌&&◌, leb, ◌⊎◌, List, [], ◌∷◌, ◌++◌, map, length, get_or, take, drop, pos, is_some, Some, None, Option, sym, refl, ap, ◌∙◌, inl, inr, add-one, arith}
+use Rattle.std.proofs.lemmas.List.{length-map, length-append, take-append-drop, take-append-le, take_all, drop-take, take-map, drop-map, drop_more}
+use Rattle.std.proofs.lemmas.List.Folds.{list_all-map}
+use Rattle.std.proofs.lemmas.Bool.{and_from, and_parts, and_left, and_right, le-leb, cases_eq}
+use Rattle.plane.specs.declared.corner.Corner.{Corner}
+use Rattle.plane.specs.First.{first_place}
 use Rattle.plane.specs.Lines.{through}
 use Rattle.plane.specs.Separation.{Point, Coefficients}
 use Rattle.plane.specs.Tests.{strictly_left, same_point}
+use Rattle.plane.proofs.Tests.{fails_somewhere}
+use Rattle.polygon.specs.Corners.{point, points}
 use Rattle.polygon.specs.Convexity.{spot, ring, all_left, sees, around, clear, all_below, turns_left, convex}
 
 pub left_each : (l : Coefficients) (qs : List Point) (z : Point) → all_left l qs ≡ true → (m : ℕ) → m < length qs → strictly_left l (get_or qs m z) ≡ true
@@ -16,67 +21,56 @@ pub left_from : (l : Coefficients) (qs : List Point) (z : Point) → ((m : ℕ) 
 left_from l [] z h = refl
 left_from l (q ∷ qs) z h = and_from (strictly_left l q) (all_left l qs) (h 0 (omega arith)) (left_from l qs z (λ m k. h (suc m) (omega arith)))
 
-pub each_left : (at : ℕ → Point) (l : Coefficients) (ns : List ℕ) (r : Bool) → IsTrue r ↔ EachIndex ns (λ k. IsTrue (strictly_left l (at (get_or ns k 0)))) → r ≡ all_left l (map at ns)
-each_left at l ns r h = go (cases_Bool r) (cases_Bool (all_left l (map at ns)))
+not_same : (s t : Bool) → not s ≡ not t → s ≡ t
+not_same true true e = refl
+not_same true false e = sym e
+not_same false true e = sym e
+not_same false false e = refl
+
+pub seen : (P Q : Point) (l : Coefficients) (cs : List Corner) (o : Option ℕ) (r : Bool)
+    → ◌≡◌ {A = Option Coefficients} (Some l) (cond (same_point P Q) None (Some (through P Q))) → o ≡ first_place (λ c. not (strictly_left l (point c))) cs → is_some o ≡ not r → r ≡ sees P Q (points cs)
+seen P Q l cs o r e f n = go (same_point P Q) e
   where
-    many : length (map at ns) ≡ length ns
-    many = length-map ns at
+    left : r ≡ all_left l (points cs)
+    left = not_same r (all_left l (points cs)) (sym n ∙ ap is_some f ∙ fails_somewhere (λ c. strictly_left l (point c)) 0 cs ∙ ap not (sym (list_all-map (strictly_left l) point cs)))
 
-    same : (k : ℕ) → k < length ns → get_or (map at ns) k (at 0) ≡ at (get_or ns k 0)
-    same k b = get_or-map at ns k 0 (at 0) b
-
-    go : (r ≡ true) ⊎ (r ≡ false) → (all_left l (map at ns) ≡ true) ⊎ (all_left l (map at ns) ≡ false) → r ≡ all_left l (map at ns)
-    go (inl t) (inl s) = t ∙ sym s
-    go (inr f) (inr g) = f ∙ sym g
-    go (inl t) (inr g) =
-        absurd (both_ways (all_left l (map at ns)) g (left_from l (map at ns) (at 0) (λ m b. let c : m < length ns = omega (arith, many) in ap (strictly_left l) (same m c) ∙ h.0 t m c)))
-    go (inr f) (inl s) =
-        absurd (both_ways r f (h.1 (λ k b. ap (strictly_left l) (sym (same k b)) ∙ left_each l (map at ns) (at 0) s k (omega (arith, many)))))
-
-pub seen : (at : ℕ → Point) (P Q : Point) (l : Coefficients) (ns : List ℕ) (r : Bool)
-    → ◌≡◌ {A = Option Coefficients} (Some l) (cond (same_point P Q) None (Some (through P Q))) → r ≡ all_left l (map at ns) → r ≡ sees P Q (map at ns)
-seen at P Q l ns r e is = go (same_point P Q) e
-  where
-    go : (s : Bool) → ◌≡◌ {A = Option Coefficients} (Some l) (cond s None (Some (through P Q))) → r ≡ (not s && all_left (through P Q) (map at ns))
+    go : (s : Bool) → ◌≡◌ {A = Option Coefficients} (Some l) (cond s None (Some (through P Q))) → r ≡ (not s && all_left (through P Q) (points cs))
     go true q = cc
-    go false q = let same : l ≡ through P Q = cc in is ∙ ap (λ x. all_left x (map at ns)) same
+    go false q = let same : l ≡ through P Q = cc in left ∙ ap (λ x. all_left x (points cs)) same
 
-pub around_is : (at : ℕ → Point) (ns others : List ℕ) (r : Bool) → 2 ≤ length ns → others ≡ drop 2 ns → r ≡ sees (at (get_or ns 0 0)) (at (get_or ns 1 0)) (map at others) → r ≡ around (map at ns)
-around_is at [] others r h o e = absurd (omega arith)
-around_is at (a ∷ []) others r h o e = absurd (omega arith)
-around_is at (a ∷ (b ∷ ns)) others r h o e = e ∙ ap (λ l. sees (at a) (at b) (map at l)) o
+pub around_is : (cs : List Corner) (p q : Corner) (m : ℕ) (r : Bool) → 2 ≤ length cs → p ≡ get_or cs 0 p → q ≡ get_or cs 1 q → length cs ≤ m + 2 → r ≡ sees (point p) (point q) (points (take m (drop 2 cs))) → r ≡ around (points cs)
+around_is [] p q m r h a b l e = absurd (omega arith)
+around_is (c ∷ []) p q m r h a b l e = absurd (omega arith)
+around_is (c ∷ (d ∷ cs)) p q m r h a b l e = e ∙ (λ i. sees (point (a i)) (point (b i)) (points (take_all m cs (omega arith) i)))
 
--- a face's round from one of its places, cut out of its numbers twice round
-module _ (at : ℕ → Point) (face row : List ℕ) (twice : take (length face + length face) row ≡ face ++ face) (i : ℕ) (inside : i < length face) (two : 2 ≤ length face) where
+-- a face's round from one of its places, cut out of its corners twice round
+module _ (ps : List Point) (face : List ℕ) (cs : List Corner) (twice : take (length face + length face) (points cs) ≡ ring ps face) (i : ℕ) (inside : i < length face) (two : 2 ≤ length face) where
   abbrev n : ℕ
   n = length face
-
-  whole : row ≡ (face ++ face) ++ drop (n + n) row
-  whole = sym (take-append-drop (n + n) row) ∙ ap (λ l. l ++ drop (n + n) row) twice
-
-  cut_out : take n (drop i row) ≡ take n (drop i (face ++ face))
-  cut_out =
-      sym (drop-take i n row)
-      ∙ ap (λ l. drop i (take (i + n) l)) whole
-      ∙ ap (drop i) (take-append-le (i + n) (face ++ face) (drop (n + n) row) (omega (arith, length-append face face)))
-      ∙ drop-take i n (face ++ face)
 
   abbrev z : Point
   z = (pos 0, pos 0)
 
-  from_here : (g : List Point) → i + 1 < length g → around (take n (drop i g)) ≡ clear n g i
-  from_here g h =
+  long : length (ring ps face) ≡ n + n
+  long = length-append (map (spot ps) face) (map (spot ps) face) ∙ (λ i. length-map face (spot ps) i + length-map face (spot ps) i)
+
+  cut_out : points (take n (drop i cs)) ≡ take n (drop i (ring ps face))
+  cut_out =
+      sym (take-map point n (drop i cs))
+      ∙ ap (take n) (sym (drop-map point i cs))
+      ∙ sym (drop-take i n (points cs))
+      ∙ ap (λ l. drop i (take (i + n) l)) (sym (take-append-drop (n + n) (points cs)) ∙ ap (λ l. l ++ drop (n + n) (points cs)) twice)
+      ∙ ap (drop i) (take-append-le (i + n) (ring ps face) (drop (n + n) (points cs)) (omega (arith, long)))
+      ∙ drop-take i n (ring ps face)
+
+  pub round_clear : around (points (take n (drop i cs))) ≡ clear n (ring ps face) i
+  round_clear =
+      let g = ring ps face in
       let e : n ≡ suc (suc (n - 2)) = omega arith in
       let s : i + 1 + 1 ≡ i + 2 = omega arith in
-      (λ j. around (take (e j) ((drop_more g i z (omega arith) ∙ ap (λ l. get_or g i z ∷ l) (drop_more g (i + 1) z h)) j)))
+      ap around cut_out
+      ∙ (λ j. around (take (e j) ((drop_more g i z (omega (arith, long)) ∙ ap (λ l. get_or g i z ∷ l) (drop_more g (i + 1) z (omega (arith, long)))) j)))
       ∙ ap (λ k. sees (get_or g i z) (get_or g (i + 1) z) (take (n - 2) (drop k g))) s
-
-  pub round_clear : around (map at (take n (drop i row))) ≡ clear n (map at face ++ map at face) i
-  round_clear =
-      ap (λ l. around (map at l)) cut_out
-      ∙ ap around (sym (take-map at n (drop i (face ++ face))) ∙ ap (take n) (sym (drop-map at i (face ++ face))))
-      ∙ from_here (map at (face ++ face)) (omega (arith, length-map (face ++ face) at, length-append face face))
-      ∙ ap (λ g. clear n g i) (map-append at face face)
 
 module _ (p : ℕ → Bool) where
   pub below_none : all_below p 0 ≡ true

@@ -12,6 +12,7 @@
 --                    faces with corner counts ss and corner numbers ns, one behind the other, of which the first is face k: the first that is not
 --                    convex is a fault
 use Rattle.std.specs.Prelude.{ℕ, zero, suc, ◌+◌, ◌-◌, ◌/◌, Bool, true, false, cond, not, ◌&&◌, List, [], ◌∷◌, ◌++◌, map, length, take, drop, pos, Ok, Err, Result, nat_le, slice_index_or}
+use Rattle.std.specs.List.{list_all}
 use Rattle.text.specs.declared.faults.Fault.{Fault}
 use Rattle.text.specs.declared.faults.Ground.TheVariants.{Shape}
 use Rattle.text.specs.Faults.{fault}
@@ -26,8 +27,7 @@ abbrev pub ring : List Point → List ℕ → List Point
 ring ps face = map (spot ps) face ++ map (spot ps) face
 
 abbrev pub all_left : Coefficients → List Point → Bool
-all_left l [] = true
-all_left l (p ∷ ps) = strictly_left l p && all_left l ps
+all_left l ps = list_all (strictly_left l) ps
 
 abbrev pub sees : Point → Point → List Point → Bool
 sees P Q ps = not (same_point P Q) && all_left (through P Q) ps

@@ -60,9 +60,9 @@ pub(crate) fn read_corners(
     ensures same { text_of lexer.new ≡ text_of lexer.old }
     ensures after { points space.new ≡ (filled (corner (text_of lexer.old)) total 0 (at_of lexer.old) (points space.old)).space }
 {
-    for k in 0..total {
+    for place in space[..total].iter_mut() {
         let (x, y) = next_corner(lexer)?;
-        space[k] = Corner { at: Post { x, y } };
+        *place = Corner { at: Post { x, y } };
     }
     Ok(())
 }

@@ -10,23 +10,16 @@ use text::{Fault, Ground, Lexer};
 // A face has at least 3 corners, and fewer than this many.
 const TOO_MANY: usize = 17;
 
-// `count` corner numbers below `limit`, into the space from the place `start` on.
-fn read_numbers(
-    lexer: &mut Lexer,
-    limit: usize,
-    count: usize,
-    start: usize,
-    space: &mut [u16],
-) -> Result<(), Fault>
-    requires room { start + count ≤ length space.old }
-    requires small { limit ≤ 65536 }
-    ensures answer { result ≡ (filled (number (text_of lexer.old) limit) count start (at_of lexer.old) space.old).result }
-    ensures stands { at_of lexer.new ≡ (filled (number (text_of lexer.old) limit) count start (at_of lexer.old) space.old).at }
+// A corner number below `limit` for each of the places.
+fn read_numbers(lexer: &mut Lexer, limit: usize, places: &mut [u16]) -> Result<(), Fault>
+    requires { limit ≤ 65536 }
+    ensures answer { result ≡ (filled (number (text_of lexer.old) limit) (length places.old) 0 (at_of lexer.old) places.old).result }
+    ensures stands { at_of lexer.new ≡ (filled (number (text_of lexer.old) limit) (length places.old) 0 (at_of lexer.old) places.old).at }
     ensures same { text_of lexer.new ≡ text_of lexer.old }
-    ensures after { space.new ≡ (filled (number (text_of lexer.old) limit) count start (at_of lexer.old) space.old).space }
+    ensures after { places.new ≡ (filled (number (text_of lexer.old) limit) (length places.old) 0 (at_of lexer.old) places.old).space }
 {
-    for k in 0..count {
-        space[start + k] = whole_within(lexer, Ground::Corner, 0, limit)? as u16;
+    for place in places.iter_mut() {
+        *place = whole_within(lexer, Ground::Corner, 0, limit)? as u16;
     }
     Ok(())
 }
@@ -50,10 +43,10 @@ pub(crate) fn read_faces(
     ensures bound { IfOk result (λ used. used ≤ 16 * total) }
 {
     let mut used = 0;
-    for f in 0..total {
+    for place in sizes[..total].iter_mut() {
         let size = whole_within(lexer, Ground::Corner, 3, TOO_MANY)?;
-        read_numbers(lexer, limit, size, used, numbers)?;
-        sizes[f] = size as u8;
+        read_numbers(lexer, limit, &mut numbers[used..used + size])?;
+        *place = size as u8;
         used += size;
     }
     Ok(used)

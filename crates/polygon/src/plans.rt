@@ -6,14 +6,13 @@ ghost use Rattle.polygon.specs.Plans.{nothing, short, opened, planned, answered}
 ghost use Rattle.polygon.specs.Understood.{spaces, Understood};
 
 use crate::chains::Chains;
-use crate::convexity::check_faces;
+use crate::convexity::{ORIGIN, check_faces};
 use crate::counts::Counts;
 use crate::doorways::list_doorways;
 use crate::edges::list_edges;
 use crate::layout::read_layout;
 use maps::passage::Passage;
 use plane::corner::Corner;
-use plane::post::Post;
 use text::{Fault, Ground};
 
 // The places of the caller's spaces: doorways, corners and corner numbers.
@@ -71,9 +70,7 @@ fn clear(doorways: &mut [Passage], corners: &mut [Corner], numbers: &mut [u16])
     ensures numbers { numbers.new ≡ replicate (length numbers.old) 0 }
 {
     doorways.fill(Passage::NONE);
-    corners.fill(Corner {
-        at: Post { x: 0, y: 0 },
-    });
+    corners.fill(ORIGIN);
     numbers.fill(0);
 }
 

@@ -1,16 +1,20 @@
-use Rattle.std.proofs.Common.{ℕ, ◌+◌, ◌++◌, length, drop, replicate, sym, ap, ◌∙◌, arith}
-use Rattle.std.proofs.lemmas.List.{length-append, take_at}
-use Rattle.std.proofs.lemmas.Slice.{take-put_mid}
+use Rattle.std.proofs.Common.{◌+◌, length, set, sym, ap, ◌∙◌, subst}
+use Rattle.std.proofs.lemmas.List.{map-set}
+use Rattle.polygon.specs.Corners.{point, points}
+use Rattle.polygon.proofs.Rounds.{Laid, laid_more, laid_all}
 use Rattle.polygon.proofs.convexity.twice_round.Goals as goal
+
+pub loop-k-preserved : goal.loop-k-preserved
+loop-k-preserved c =
+    let ps = points c.args.corners.now in
+    let face = c.args.face.now in
+    let row = c.loop-k.ring in
+    let k = c.loop-k.k in
+    let x = c.corner_at-corner.result in
+    subst (λ r. Laid ps face r (k + 1)) (sym (map-set point (set row k x) (length face + k) x ∙ ap (λ r. set r (length face + k) (point x)) (map-set point row k x)))
+    (laid_more ps face (points row) k (point x) c.loop-k-test.true c.corner_at-corner.ensures c.loop-k.invariant)
 
 pub returns : goal.returns
 returns c =
-    let n = length c.args.face.now in
-    let one = c.copy_from_slice.new.self in
-    let two = c.copy_from_slice-2.new.self in
-    let zeros = drop n (replicate {A = ℕ} 32 0) in
-    let is_one = c.copy_from_slice.ensures.after in
-    let is_two = c.copy_from_slice-2.ensures.after in
-    take-put_mid n _ (one ++ zeros) two (n + n) (ap (λ l. n + length l) (sym is_two)) (omega (arith, ap length is_one, length-append one zeros))
-    ∙ ap (λ l. l ++ two) (take_at one zeros n (ap length is_one))
-    ∙ (λ i. is_one i ++ is_two i)
+    let row = c.loop-k.ring in
+    laid_all (points c.args.corners.now) c.args.face.now (points row) c.loop-k.k c.loop-k-test.false c.loop-k.invariant
