@@ -16,6 +16,7 @@ use Rattle.grid.specs.Refusals.{Headed, Sized, Begun, Faulty, Blamed, bare, head
 use Rattle.grid.proofs.Starts.{headed_was, headed_fault}
 use Rattle.grid.proofs.Sides.{size_read, misspelt, off, Unsized, width_off, height_off, product_off, size_fault}
 use Rattle.grid.proofs.Fronts.{Missed, ends, odd_byte, wrong, Front, Failing, fails, wholes, begins}
+use Rattle.grid.proofs.Clashes.{clash}
 
 headed_there : (t : List ℕ) (p : ℕ) → headed t ≡ Ok p → Headed t
 headed_there t p e = let u = headed_was t p e in (u.1, u.2, u.3)
@@ -50,14 +51,14 @@ module _ (t : List ℕ) (f : Fault) where
             p = (painted t s (area s) 0 (sized t 2).at zs).at
 
             found : (r : Option (ℕ × ℕ)) (next : ℕ) → Found t p r next → left_over r ≡ Err f → Faulty t f
-            found None next k e = let z : ◌≡◌ {A = ℕ} 0 1 = cc in absurd (omega arith)
+            found None next k e = clash cc
             found (Some m) next k e =
                 let same : f ≡ fault Over m.1 = cc in
                 refusals.left_over s (sized t 2).at size h.0 p (begins t s (sized t 2).at h.0 p h.1) h.2 m.0 m.1 next k same
 
   ended_blame : (s : Size) (zs : List ℕ) → Sized t s (sized t 2).at → (painted t s (area s) 0 (sized t 2).at zs).result ≡ Ok tt
       → (r : Result (Unit {0}) Fault) → over t (painted t s (area s) 0 (sized t 2).at zs).at ≡ r → (sp : List ℕ) → (ended s r sp).result ≡ Err f → Faulty t f
-  ended_blame s zs size all (Ok u) is sp e = let z : ◌≡◌ {A = ℕ} 0 1 = cc in absurd (omega arith)
+  ended_blame s zs size all (Ok u) is sp e = clash cc
   ended_blame s zs size all (Err g) is sp e = let same : g ≡ f = cc in over_blame s zs size all (is ∙ ap Err same)
 
   drawn_blame : (s : Size) (zs : List ℕ) → Sized t s (sized t 2).at → (r : Result (Unit {0}) Fault) → (painted t s (area s) 0 (sized t 2).at zs).result ≡ r

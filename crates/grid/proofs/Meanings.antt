@@ -21,20 +21,21 @@ use Rattle.grid.proofs.Inks.{Inked, inked}
 use Rattle.grid.proofs.Paintings.{Filled, fills, Drawn, draws}
 use Rattle.grid.proofs.Places.{rights_bits, legal_rights, rights_legal}
 use Rattle.grid.proofs.Sides.{Sizing, size_read, size_reads}
+use Rattle.grid.proofs.Clashes.{clash}
 
 over_was : (t : List ℕ) (at : ℕ) → over t at ≡ Ok tt → ink (drop at t) ≡ []
 over_was t at = go (marked t at).found (marked t at).at (inked t at)
   where
     go : (r : Option (ℕ × ℕ)) (p : ℕ) → Inked t at r p → left_over r ≡ Ok tt → ink (drop at t) ≡ []
     go None p i e = i
-    go (Some m) p i e = let z : ◌≡◌ {A = ℕ} 0 1 = cc in absurd (omega arith)
+    go (Some m) p i e = clash cc
 
 over_is : (t : List ℕ) (at : ℕ) → ink (drop at t) ≡ [] → over t at ≡ Ok tt
 over_is t at e = go (marked t at).found (marked t at).at (inked t at)
   where
     go : (r : Option (ℕ × ℕ)) (p : ℕ) → Inked t at r p → left_over r ≡ Ok tt
     go None p i = refl
-    go (Some m) p i = let z : ◌≡◌ {A = ℕ} 0 1 = cc in absurd (omega arith)
+    go (Some m) p i = clash cc
 
 -- pixels written over the front of zeros
 over_zeros : (n : ℕ) (ps : List ℕ) → length ps ≤ n → sets (zeros n) 0 ps ≡ ps ++ zeros (n - length ps)
@@ -52,7 +53,7 @@ record Steps (t zs : List ℕ) (s : Size) (o : Plan) : Type 0 where
   space : o.space ≡ (painted t s (area s) 0 (sized t 2).at zs).space
 
 no : {s : Size} {f : Fault} {A : Type 0} → Err f ≡ Ok s → A
-no e = let z : ◌≡◌ {A = ℕ} 0 1 = cc in absurd (omega arith)
+no e = clash cc
 
 module _ (t zs : List ℕ) (s : Size) where
   -- an outcome that is the size s has come by these steps
