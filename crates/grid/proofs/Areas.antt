@@ -1,5 +1,5 @@
 -- Bounds of a plan's rooms and pixels.
-use Rattle.std.proofs.Common.{◌≡◌, ℕ, zero, suc, ◌+◌, ◌*◌, ◌≤◌, subst, mul_assoc, suc-mul, mul_comm, add-mul, mul-le-mul_left, mul-one, mul-suc, mul-add, arith}
+use Rattle.std.proofs.Common.{◌≡◌, ℕ, zero, suc, ◌+◌, ◌*◌, ◌≤◌, mul_assoc, suc-mul, mul_comm, add-mul, mul-suc, mul-add, arith}
 use Rattle.grid.specs.declared.sizes.Size.{Size}
 use Rattle.grid.specs.Sizes.{Roomy, across, area}
 

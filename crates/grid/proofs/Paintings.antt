@@ -11,13 +11,17 @@ use Rattle.text.specs.Marks.{marked}
 use Rattle.text.specs.Outs.{at_ok}
 use Rattle.grid.specs.declared.sizes.Size.{Size}
 use Rattle.grid.specs.Outs.{behind}
-use Rattle.grid.specs.Sizes.{across}
-use Rattle.grid.specs.Pixels.{rule_of, allowed, ink_of, coloured, pixel_of, pixel_at, stroke, painted}
+use Rattle.grid.specs.Sizes.{across, area, sized}
+use Rattle.grid.specs.Pixels.{Painting, rule_of, allowed, ink_of, coloured, pixel_of, pixel_at, stroke, painted}
 use Rattle.grid.specs.Pictures.{ink, Colour}
 use Rattle.grid.proofs.Inks.{Inked, inked}
 use Rattle.grid.proofs.Rules.{allowed_right, right_allowed}
 use Rattle.grid.proofs.Strokes.{paint_none, paint_ok, paint_err}
 use Rattle.grid.proofs.Clashes.{clash}
+
+-- all pixels of a plan of size s, painted behind the heading and the size of the text t
+abbrev pub whole : List ℕ → Size → List ℕ → Painting
+whole t s zs = painted t s (area s) 0 (sized t 2).at zs
 
 -- the colour p of pixel k is right
 abbrev pub Right : Size → ℕ → ℕ → Type 0
