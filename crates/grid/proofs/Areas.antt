@@ -1,13 +1,7 @@
 -- Bounds of a plan's rooms and pixels.
-use Rattle.std.proofs.Common.{◌≡◌, ℕ, zero, suc, ◌+◌, ◌*◌, ◌≤◌, subst, mul_assoc, suc-mul, mul_comm, add-mul, mul-le-mul_left, mul-one, mul-suc, mul-add, arith}
+use Rattle.std.proofs.Common.{◌≡◌, ℕ, zero, suc, ◌+◌, ◌*◌, ◌≤◌, mul_assoc, suc-mul, mul_comm, add-mul, mul-suc, mul-add, arith}
 use Rattle.grid.specs.declared.sizes.Size.{Size}
 use Rattle.grid.specs.Sizes.{Roomy, across, area}
-
-pub left_factor : (a b : ℕ) → 1 ≤ b → a ≤ a * b
-left_factor a b h = subst (λ x. x ≤ a * b) (mul-one a) (mul-le-mul_left a h)
-
-pub right_factor : (a b : ℕ) → 1 ≤ a → b ≤ a * b
-right_factor a b h = subst (λ x. b ≤ x) (mul_comm b a) (left_factor b a h)
 
 -- the sum of two numbers above 0 is at most one more than their product
 sum_below : (a b : ℕ) → 1 ≤ a → 1 ≤ b → a + b ≤ a * b + 1

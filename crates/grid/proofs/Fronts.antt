@@ -22,6 +22,7 @@ use Rattle.grid.proofs.Rules.{right_allowed}
 use Rattle.grid.proofs.Strokes.{paint_none, paint_ok, paint_err}
 use Rattle.grid.proofs.Paintings.{Right, Rights, ink_was, ink_is, pixel_was, stroke_was}
 use Rattle.grid.proofs.Places.{rights_at, rights_bits}
+use Rattle.grid.proofs.Clashes.{clash}
 
 ink_both : (xs ys : List ℕ) → ink (xs ++ ys) ≡ ink xs ++ ink ys
 ink_both [] ys = refl
@@ -41,7 +42,7 @@ ink_bad : (m : ℕ × ℕ) (f : Fault) → ink_of m ≡ Err f → (m.0 ≡ 48 �
 ink_bad m f e = (λ h. never (ink_is m 0 h (omega arith)), λ h. never (ink_is m 1 h (omega arith)))
   where
     never : {i : ℕ} → ink_of m ≡ Ok i → ⊥
-    never is = let z : ◌≡◌ {A = ℕ} 0 1 = cc in omega arith
+    never is = clash cc
 
 ink_fault : (m : ℕ × ℕ) (f : Fault) → (m.0 ≡ 48 → ⊥) → (m.0 ≡ 49 → ⊥) → ink_of m ≡ Err f → f ≡ fault Stray m.1
 ink_fault m f a b e =
@@ -53,7 +54,7 @@ module _ (t : List ℕ) (s : Size) where
   mark_missed k at m p f h = go (ink_of m) refl
     where
       tested : (i : ℕ) → m.0 ≡ 48 + i → i < 2 → (b : Bool) → allowed (rule_of s (k % across s.w) (k / across s.w)) i ≡ b → cond b (Ok i) (Err (fault WrongColour m.1)) ≡ Err f → Missed t s k at f
-      tested i is few true a e = let z : ◌≡◌ {A = ℕ} 0 1 = cc in absurd (omega arith)
+      tested i is few true a e = clash cc
       tested i is few false a e =
           wrong i m.1 p (subst (λ b. Found t at (Some (b, m.1)) p) is h) few (λ c. both_ways _ a (right_allowed s _ _ i c)) (let same : f ≡ fault WrongColour m.1 = cc in same)
 
@@ -85,7 +86,7 @@ module _ (t : List ℕ) (s : Size) where
   front_one k at p = go (marked t at).found (marked t at).at (finds t at _ _ refl refl)
     where
       go : (r : Option (ℕ × ℕ)) (q : ℕ) → Found t at r q → (at_ok (ok_or r (fault Early (length t))) q (pixel_at s k)).result ≡ Ok p → (fr : List ℕ) × (drop at t ≡ fr ++ drop (at_ok (ok_or r (fault Early (length t))) q (pixel_at s k)).at t) × (ink fr ≡ (48 + p) ∷ [])
-      go None q h e = let z : ◌≡◌ {A = ℕ} 0 1 = cc in absurd (omega arith)
+      go None q h e = clash cc
       go (Some m) q h e =
           let u = pixel_was s k m p e in (
             h.0 ++ (m.0 ∷ []),
@@ -123,7 +124,7 @@ module _ (t : List ℕ) (s : Size) where
       }
 
   pub fails : (n k at : ℕ) (sp : List ℕ) (f : Fault) → (painted t s n k at sp).result ≡ Err f → Failing n k at f
-  fails zero k at sp f e = let q = ap (λ o. o.result) (sym (paint_none t s k at sp)) ∙ e in let z : ◌≡◌ {A = ℕ} 0 1 = cc in absurd (omega arith)
+  fails zero k at sp f e = let q = ap (λ o. o.result) (sym (paint_none t s k at sp)) ∙ e in clash cc
   fails (suc n) k at sp f e = go (stroke t s k at).result refl (λ sp'. fails n (k + 1) (stroke t s k at).at sp' f)
     where
       go : (r : Result ℕ Fault) → (stroke t s k at).result ≡ r → ((sp' : List ℕ) → (painted t s n (k + 1) (stroke t s k at).at sp').result ≡ Err f → Failing n (k + 1) (stroke t s k at).at f) → Failing (suc n) k at f
@@ -144,7 +145,7 @@ module _ (t : List ℕ) (s : Size) where
           let same = paint_ok t s n k at sp p is in
           let u = more (set sp k p) (ap (λ o. o.result) (sym same) ∙ e) in
           (p ∷ u.0, subst (Front k at (p ∷ u.0)) (ap (λ o. o.at) (sym same)) (front_more k at p u.0 _ is u.1), ap suc u.2)
-      go (Err g) is more = let q = ap (λ o. o.result) (sym (paint_err t s n k at sp g is)) ∙ e in let z : ◌≡◌ {A = ℕ} 0 1 = cc in absurd (omega arith)
+      go (Err g) is more = let q = ap (λ o. o.result) (sym (paint_err t s n k at sp g is)) ∙ e in clash cc
 
   pub begins : (at : ℕ) (ps : List ℕ) (p : ℕ) → Front 0 at ps p → Begun t s at ps p
   begins at ps p h =

@@ -1,6 +1,7 @@
 -- The doorway of each opening joins two rooms of the plan, by a crossing.
-use Rattle.std.proofs.Common.{◌≡◌, ℕ, zero, suc, ◌+◌, ◌-◌, ◌*◌, ◌/◌, ◌<◌, ◌≤◌, true, false, cond, List, [], ◌∷◌, pos, refl, ap, ◌∙◌, add-mul, one-mul, arith}
+use Rattle.std.proofs.Common.{◌≡◌, ℕ, zero, suc, ◌+◌, ◌-◌, ◌*◌, ◌/◌, ◌<◌, ◌≤◌, true, false, cond, List, [], ◌∷◌, pos, refl, ap, ◌∙◌, add-mul, one-mul, mul_comm, arith}
 use Rattle.std.specs.List.{AllByRecursion}
+use Rattle.std.proofs.Math.Nat.{le-mul_of_pos_right}
 use Rattle.std.proofs.lemmas.Nat.{mul-add-lt}
 use Rattle.std.proofs.ByRecursion.{All-append}
 use Rattle.std.proofs.lemmas.Int.{ints}
@@ -11,15 +12,14 @@ use Rattle.grid.specs.declared.sizes.Size.{Size}
 use Rattle.grid.specs.Doorways.{column, eastward, free, northward, opening, openings, passage_at, row}
 use Rattle.grid.specs.Pixels.{odd, rule_of}
 use Rattle.grid.specs.Sizes.{Roomy, area}
-use Rattle.grid.proofs.Areas.{left_factor, right_factor}
 use Rattle.grid.proofs.Between.{rooms_above, rooms_beside, stands}
 
 module _ (s : Size) (roomy : Roomy s) where
   wide : s.w ≤ 256
-  wide = omega (arith, left_factor s.w s.h roomy.1, roomy.2)
+  wide = omega (arith, le-mul_of_pos_right s.w roomy.1, roomy.2)
 
   tall : s.h ≤ 256
-  tall = omega (arith, right_factor s.w s.h roomy.0, roomy.2)
+  tall = omega (arith, le-mul_of_pos_right s.h roomy.0, mul_comm s.w s.h, roomy.2)
 
   east_joins : (i j : ℕ) → i + 1 < s.w → j < s.h → Joins (s.w * s.h) (eastward s.w i j)
   east_joins i j a b =

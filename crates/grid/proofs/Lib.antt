@@ -1,3 +1,4 @@
+pub mod Clashes
 pub mod Areas
 pub mod Starts
 pub mod Strokes

@@ -11,30 +11,30 @@ use Rattle.text.specs.Numerals.{Ends}
 use Rattle.text.proofs.Plain.{gap}
 use Rattle.grid.specs.declared.sizes.Size.{Size}
 use Rattle.grid.specs.Sizes.{sized, Roomy, area}
-use Rattle.grid.specs.Pixels.{painted}
 use Rattle.grid.specs.Headings.{headed}
 use Rattle.grid.specs.Plans.{Plan, ended, finished, at_size, at_heading, planned, zeros, kept, answered}
 use Rattle.grid.specs.Pictures.{ink, Spaces, Legal, Spelling, Understood}
 use Rattle.grid.proofs.Areas.{area_fits}
 use Rattle.grid.proofs.Starts.{headed_was, headed_reads}
 use Rattle.grid.proofs.Inks.{Inked, inked}
-use Rattle.grid.proofs.Paintings.{Filled, fills, Drawn, draws}
+use Rattle.grid.proofs.Paintings.{Filled, fills, Drawn, draws, whole}
 use Rattle.grid.proofs.Places.{rights_bits, legal_rights, rights_legal}
 use Rattle.grid.proofs.Sides.{Sizing, size_read, size_reads}
+use Rattle.grid.proofs.Clashes.{clash}
 
 over_was : (t : List ℕ) (at : ℕ) → over t at ≡ Ok tt → ink (drop at t) ≡ []
 over_was t at = go (marked t at).found (marked t at).at (inked t at)
   where
     go : (r : Option (ℕ × ℕ)) (p : ℕ) → Inked t at r p → left_over r ≡ Ok tt → ink (drop at t) ≡ []
     go None p i e = i
-    go (Some m) p i e = let z : ◌≡◌ {A = ℕ} 0 1 = cc in absurd (omega arith)
+    go (Some m) p i e = clash cc
 
 over_is : (t : List ℕ) (at : ℕ) → ink (drop at t) ≡ [] → over t at ≡ Ok tt
 over_is t at e = go (marked t at).found (marked t at).at (inked t at)
   where
     go : (r : Option (ℕ × ℕ)) (p : ℕ) → Inked t at r p → left_over r ≡ Ok tt
     go None p i = refl
-    go (Some m) p i = let z : ◌≡◌ {A = ℕ} 0 1 = cc in absurd (omega arith)
+    go (Some m) p i = clash cc
 
 -- pixels written over the front of zeros
 over_zeros : (n : ℕ) (ps : List ℕ) → length ps ≤ n → sets (zeros n) 0 ps ≡ ps ++ zeros (n - length ps)
@@ -47,12 +47,12 @@ record Steps (t zs : List ℕ) (s : Size) (o : Plan) : Type 0 where
   few : length t ≤ 60000
   start : headed t ≡ Ok 2
   size : (sized t 2).result ≡ Ok s
-  all : (painted t s (area s) 0 (sized t 2).at zs).result ≡ Ok tt
-  done : over t (painted t s (area s) 0 (sized t 2).at zs).at ≡ Ok tt
-  space : o.space ≡ (painted t s (area s) 0 (sized t 2).at zs).space
+  all : (whole t s zs).result ≡ Ok tt
+  done : over t (whole t s zs).at ≡ Ok tt
+  space : o.space ≡ (whole t s zs).space
 
 no : {s : Size} {f : Fault} {A : Type 0} → Err f ≡ Ok s → A
-no e = let z : ◌≡◌ {A = ℕ} 0 1 = cc in absurd (omega arith)
+no e = clash cc
 
 module _ (t zs : List ℕ) (s : Size) where
   -- an outcome that is the size s has come by these steps
@@ -61,22 +61,22 @@ module _ (t zs : List ℕ) (s : Size) where
 
   module _ (few : length t ≤ 60000) (start : headed t ≡ Ok 2) where
     module _ (s' : Size) (size : (sized t 2).result ≡ Ok s') where
-      last : (painted t s' (area s') 0 (sized t 2).at zs).result ≡ Ok tt → (r : Result (Unit {0}) Fault) → over t (painted t s' (area s') 0 (sized t 2).at zs).at ≡ r → Goal (ended s' r (painted t s' (area s') 0 (sized t 2).at zs).space)
+      last : (whole t s' zs).result ≡ Ok tt → (r : Result (Unit {0}) Fault) → over t (whole t s' zs).at ≡ r → Goal (ended s' r (whole t s' zs).space)
       unfolding Goal
       last all (Ok u) is e =
           let same : s' ≡ s = cc in
-          let o : Plan = record { result = Ok s'; space = (painted t s' (area s') 0 (sized t 2).at zs).space } in
+          let o : Plan = record { result = Ok s'; space = (whole t s' zs).space } in
           subst (λ x. Steps t zs x o) same (record { few = few; start = start; size = size; all = all; done = is; space = refl })
       last all (Err f) is e = no e
 
-      step_paint : (r : Result (Unit {0}) Fault) → (painted t s' (area s') 0 (sized t 2).at zs).result ≡ r → Goal (finished t s' r (painted t s' (area s') 0 (sized t 2).at zs).at (painted t s' (area s') 0 (sized t 2).at zs).space)
+      step_paint : (r : Result (Unit {0}) Fault) → (whole t s' zs).result ≡ r → Goal (finished t s' r (whole t s' zs).at (whole t s' zs).space)
       unfolding Goal
-      step_paint (Ok u) is e = last is (over t (painted t s' (area s') 0 (sized t 2).at zs).at) refl e
+      step_paint (Ok u) is e = last is (over t (whole t s' zs).at) refl e
       step_paint (Err f) is e = no e
 
     step_size : (r : Result Size Fault) → (sized t 2).result ≡ r → Goal (at_size t r (sized t 2).at zs)
     unfolding Goal
-    step_size (Ok s') is e = step_paint s' is (painted t s' (area s') 0 (sized t 2).at zs).result refl e
+    step_size (Ok s') is e = step_paint s' is (whole t s' zs).result refl e
     step_size (Err f) is e = no e
 
   step_heading : length t ≤ 60000 → (r : Result ℕ Fault) → headed t ≡ r → Goal (at_heading t r zs)

@@ -11,12 +11,17 @@ use Rattle.text.specs.Marks.{marked}
 use Rattle.text.specs.Outs.{at_ok}
 use Rattle.grid.specs.declared.sizes.Size.{Size}
 use Rattle.grid.specs.Outs.{behind}
-use Rattle.grid.specs.Sizes.{across}
-use Rattle.grid.specs.Pixels.{rule_of, allowed, ink_of, coloured, pixel_of, pixel_at, stroke, painted}
+use Rattle.grid.specs.Sizes.{across, area, sized}
+use Rattle.grid.specs.Pixels.{Painting, rule_of, allowed, ink_of, coloured, pixel_of, pixel_at, stroke, painted}
 use Rattle.grid.specs.Pictures.{ink, Colour}
 use Rattle.grid.proofs.Inks.{Inked, inked}
 use Rattle.grid.proofs.Rules.{allowed_right, right_allowed}
 use Rattle.grid.proofs.Strokes.{paint_none, paint_ok, paint_err}
+use Rattle.grid.proofs.Clashes.{clash}
+
+-- all pixels of a plan of size s, painted behind the heading and the size of the text t
+abbrev pub whole : List ℕ → Size → List ℕ → Painting
+whole t s zs = painted t s (area s) 0 (sized t 2).at zs
 
 -- the colour p of pixel k is right
 abbrev pub Right : Size → ℕ → ℕ → Type 0
@@ -41,21 +46,21 @@ pixel_was s k m p e = go (ink_of m) refl e
   where
     tested : (i : ℕ) (b : Bool) → allowed (rule_of s (k % across s.w) (k / across s.w)) i ≡ b → cond b (Ok i) (Err (fault WrongColour m.1)) ≡ Ok p → (i ≡ p) × Right s k p
     tested i true a q = let same : i ≡ p = cc in (same, subst (Right s k) same (allowed_right s _ _ i a))
-    tested i false a q = let z : ◌≡◌ {A = ℕ} 0 1 = cc in absurd (omega arith)
+    tested i false a q = clash cc
 
     go : (r : Result ℕ Fault) → ink_of m ≡ r → behind r (coloured s k m.1) ≡ Ok p → (m.0 ≡ 48 + p) × (p < 2) × Right s k p
     go (Ok i) is q =
         let t = tested i _ refl q in
         let n = ink_was m i is in
         (n.0 ∙ ap (λ x. 48 + x) t.0, subst (λ x. x < 2) t.0 n.1, t.1)
-    go (Err f) is q = let z : ◌≡◌ {A = ℕ} 0 1 = cc in absurd (omega arith)
+    go (Err f) is q = clash cc
 
 module _ (t : List ℕ) (s : Size) where
   stroke_is : (k at p : ℕ) (rest : List ℕ) → ink (drop at t) ≡ (48 + p) ∷ rest → p < 2 → Right s k p → ((stroke t s k at).result ≡ Ok p) × (ink (drop (stroke t s k at).at t) ≡ rest)
   stroke_is k at p rest e h c = go (marked t at).found (marked t at).at (inked t at)
     where
       go : (r : Option (ℕ × ℕ)) (q : ℕ) → Inked t at r q → ((at_ok (ok_or r (fault Early (length t))) q (pixel_at s k)).result ≡ Ok p) × (ink (drop (at_ok (ok_or r (fault Early (length t))) q (pixel_at s k)).at t) ≡ rest)
-      go None q i = let z : ◌≡◌ {A = ℕ} 0 1 = cc in absurd (omega arith)
+      go None q i = clash cc
       go (Some m) q i =
           let head : m.0 ≡ 48 + p = cc in
           let tail : ink (drop q t) ≡ rest = cc in
@@ -65,7 +70,7 @@ module _ (t : List ℕ) (s : Size) where
   stroke_was k at p = go (marked t at).found (marked t at).at (inked t at)
     where
       go : (r : Option (ℕ × ℕ)) (q : ℕ) → Inked t at r q → (at_ok (ok_or r (fault Early (length t))) q (pixel_at s k)).result ≡ Ok p → (ink (drop at t) ≡ (48 + p) ∷ ink (drop (at_ok (ok_or r (fault Early (length t))) q (pixel_at s k)).at t)) × (p < 2) × Right s k p
-      go None q i e = let z : ◌≡◌ {A = ℕ} 0 1 = cc in absurd (omega arith)
+      go None q i e = clash cc
       go (Some m) q i e = let u = pixel_was s k m p e in (i ∙ ap (λ x. x ∷ ink (drop q t)) u.0, u.1, u.2)
 
   pub record Filled (n k at : ℕ) (sp ps rest : List ℕ) : Type 0 where
@@ -114,4 +119,4 @@ module _ (t : List ℕ) (s : Size) where
     where
       go : (r : Result ℕ Fault) → (stroke t s k at).result ≡ r → ((sp' : List ℕ) → (painted t s n (k + 1) (stroke t s k at).at sp').result ≡ Ok tt → Drawn n (k + 1) (stroke t s k at).at sp') → Drawn (suc n) k at sp
       go (Ok p) is more = drawn_more n k at sp p is (more (set sp k p) (ap (λ o. o.result) (sym (paint_ok t s n k at sp p is)) ∙ e))
-      go (Err f) is more = let q = ap (λ o. o.result) (sym (paint_err t s n k at sp f is)) ∙ e in let z : ◌≡◌ {A = ℕ} 0 1 = cc in absurd (omega arith)
+      go (Err f) is more = let q = ap (λ o. o.result) (sym (paint_err t s n k at sp f is)) ∙ e in clash cc

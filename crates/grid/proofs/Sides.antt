@@ -14,6 +14,7 @@ use Rattle.text.proofs.Numerals.{is_spelt}
 use Rattle.grid.specs.declared.sizes.Size.{Size}
 use Rattle.grid.specs.Refusals.{Side}
 use Rattle.grid.specs.Sizes.{side_of, halved, sided, fitted, fitting, with_height, sized, Roomy, across}
+use Rattle.grid.proofs.Clashes.{clash}
 
 side_is : (n : Number) (w : ℕ) → n.magnitude ≡ across w → 1 ≤ w → side_of n ≡ Ok (w, n.start)
 side_is n w e h =
@@ -25,7 +26,7 @@ side_was : (n : Number) (a : ℕ × ℕ) → side_of n ≡ Ok a → (n.magnitude
 side_was n a = go (ltb n.magnitude 3 || eqb (n.magnitude % 2) 0) refl
   where
     go : (b : Bool) → (ltb n.magnitude 3 || eqb (n.magnitude % 2) 0) ≡ b → cond b (Err (fault Limits n.start)) (Ok (n.magnitude / 2, n.start)) ≡ Ok a → (n.magnitude ≡ across a.0) × (1 ≤ a.0) × (n.start ≡ a.1)
-    go true t e = let z : ◌≡◌ {A = ℕ} 0 1 = cc in absurd (omega arith)
+    go true t e = clash cc
     go false t e =
         let pair : (n.magnitude / 2, n.start) ≡ a = cc in
         let half : n.magnitude / 2 ≡ a.0 = ap (λ x. x.0) pair in
@@ -39,8 +40,8 @@ side_bad n f e = go (ltb n.magnitude 3 || eqb (n.magnitude % 2) 0) refl e
     go true t q = (λ h. never (side_is n h.0 h.2 h.1), let same : f ≡ fault Limits n.start = cc in same)
       where
         never : {a : ℕ × ℕ} → side_of n ≡ Ok a → ⊥
-        never is = let z : ◌≡◌ {A = ℕ} 0 1 = cc in omega arith
-    go false t q = let z : ◌≡◌ {A = ℕ} 0 1 = cc in absurd (omega arith)
+        never is = clash cc
+    go false t q = clash cc
 
 -- the same number, under another name of its value
 abbrev plain_as : {bs rest : List ℕ} {v v' : ℕ} → Plain bs v rest → v ≡ v' → Plain bs v' rest
@@ -63,7 +64,7 @@ module _ (t : List ℕ) (at : ℕ) where
           let u = side_was n a e in
           let h = plain_found t at n p is in
           (plain_as h.0 u.0, u.1, sym u.2 ∙ h.1)
-      go (Err f) p is e = let z : ◌≡◌ {A = ℕ} 0 1 = cc in absurd (omega arith)
+      go (Err f) p is e = clash cc
 
   pub side_read : (a : ℕ × ℕ) → (sided t at).result ≡ Ok a → Plain (drop at t) (across a.0) (drop (sided t at).at t) × (1 ≤ a.0)
   side_read a e = let u = side_found a e in (u.0, u.1)
@@ -89,7 +90,7 @@ fit_was : (w h : ℕ × ℕ) (s : Size) → fitted w h ≡ Ok s → (w.0 ≡ s.w
 fit_was w h s = go (ltb 256 (w.0 * h.0)) refl
   where
     go : (b : Bool) → ltb 256 (w.0 * h.0) ≡ b → cond b (Err (fault Limits h.1)) (Ok (record { w = w.0; h = h.0 })) ≡ Ok s → (w.0 ≡ s.w) × (h.0 ≡ s.h) × (s.w * s.h ≤ 256)
-    go true t e = let z : ◌≡◌ {A = ℕ} 0 1 = cc in absurd (omega arith)
+    go true t e = clash cc
     go false t e =
         let same : ◌≡◌ {A = Size} (record { w = w.0; h = h.0 }) s = cc in
         (ap (λ x. x.w) same, ap (λ x. x.h) same, subst (λ (x : Size). x.w * x.h ≤ 256) same (ltb-false 256 (w.0 * h.0) t))
@@ -117,11 +118,11 @@ module _ (t : List ℕ) (at : ℕ) where
                 (subst (λ x. Plain (drop p t) (across b.0) (drop x t)) (ap (λ o. o.at) is' ∙ sym (ap (λ o. o.at) all)) tall.0);
             roomy = (subst (λ x. 1 ≤ x) f.0 wide.1, subst (λ x. 1 ≤ x) f.1 tall.1, f.2);
           }
-      inner a p is (Err f) q is' all e = let z : ◌≡◌ {A = ℕ} 0 1 = cc in absurd (omega arith)
+      inner a p is (Err f) q is' all e = clash cc
 
       outer : (r : Result (ℕ × ℕ) Fault) (p : ℕ) → sided t at ≡ record { result = r; at = p } → (at_ok r p (with_height t)).result ≡ Ok s → Sizing s
       outer (Ok a) p is e = inner a p is (sided t p).result (sided t p).at refl (ap (λ o. next o (with_height t)) is) e
-      outer (Err f) p is e = let z : ◌≡◌ {A = ℕ} 0 1 = cc in absurd (omega arith)
+      outer (Err f) p is e = clash cc
 
   pub size_reads : (s : Size) (middle rest : List ℕ) → Plain (drop at t) (across s.w) middle → Plain middle (across s.h) rest → Roomy s → (p : ℕ) × (sized t at ≡ record { result = Ok s; at = p }) × (drop p t ≡ rest)
   size_reads s middle rest wide tall room =
@@ -147,7 +148,7 @@ module _ (t : List ℕ) (at : ℕ) where
     where
       product : (a b : ℕ × ℕ) → (c : Bool) → ltb 256 (a.0 * b.0) ≡ c → cond {A = Result Size Fault} c (Err (fault Limits b.1)) (Ok (record { w = a.0; h = b.0 })) ≡ Err f → (256 < a.0 * b.0) × (f ≡ fault Limits b.1)
       product a b true t e = (ltb-true 256 (a.0 * b.0) t, let same : f ≡ fault Limits b.1 = cc in same)
-      product a b false t e = let z : ◌≡◌ {A = ℕ} 0 1 = cc in absurd (omega arith)
+      product a b false t e = clash cc
 
       wide_at : (a : ℕ × ℕ) (p : ℕ) → sided t at ≡ record { result = Ok a; at = p } → Plain (drop at t) (across a.0) (drop p t) × (1 ≤ a.0)
       wide_at a p is = let u = side_read t at a (ap (λ o. o.result) is) in (subst (λ x. Plain (drop at t) (across a.0) (drop x t)) (ap (λ o. o.at) is) u.0, u.1)

@@ -11,6 +11,7 @@ use Rattle.text.proofs.Classes.{white_true, white_from_true}
 use Rattle.text.specs.Headings.{spaced}
 use Rattle.grid.specs.Headings.{headed}
 use Rattle.grid.specs.Refusals.{Headed}
+use Rattle.grid.proofs.Clashes.{clash}
 
 module _ (t : List ℕ) (long : 2 ≤ length t) (first : get_or t 0 0 ≡ 80) (second : get_or t 1 0 ≡ 49) where
   pub headed_is : headed t ≡ spaced 2 (drop 2 t)
@@ -23,16 +24,16 @@ module _ (t : List ℕ) (long : 2 ≤ length t) (first : get_or t 0 0 ≡ 80) (s
 
 -- a heading that is read stands there, with white space behind it
 spaced_was : (bs : List ℕ) (p : ℕ) → spaced 2 bs ≡ Ok p → (p ≡ 2) × Ends bs × (0 < length bs)
-spaced_was [] p e = let z : ◌≡◌ {A = ℕ} 0 1 = cc in absurd (omega arith)
+spaced_was [] p e = clash cc
 spaced_was (b ∷ bs) p e = go (white b) refl (sym (cond-false _ _ _ (ne_eqb (length (b ∷ bs)) 0 (omega arith))) ∙ e)
   where
     go : (w : Bool) → white b ≡ w → cond w (Ok 2) (Err (fault Heading 0)) ≡ Ok p → (p ≡ 2) × White b × (0 < length (b ∷ bs))
     go true w q = let same : ◌≡◌ {A = ℕ} p 2 = cc in (same, white_from_true b w, omega arith)
-    go false w q = let z : ◌≡◌ {A = ℕ} 0 1 = cc in absurd (omega arith)
+    go false w q = clash cc
 
 pub headed_was : (t : List ℕ) (p : ℕ) → headed t ≡ Ok p → (p ≡ 2) × (t ≡ 80 ∷ (49 ∷ drop 2 t)) × Ends (drop 2 t) × (0 < length (drop 2 t))
-headed_was [] p e = let z : ◌≡◌ {A = ℕ} 0 1 = cc in absurd (omega arith)
-headed_was (a ∷ []) p e = let z : ◌≡◌ {A = ℕ} 0 1 = cc in absurd (omega arith)
+headed_was [] p e = clash cc
+headed_was (a ∷ []) p e = clash cc
 headed_was (a ∷ (b ∷ bs)) p e = go (leb 2 (length (a ∷ (b ∷ bs))) && (eqb a 80 && eqb b 49)) refl e
   where
     go : (h : Bool) → (leb 2 (length (a ∷ (b ∷ bs))) && (eqb a 80 && eqb b 49)) ≡ h → cond h (spaced 2 bs) (Err (fault Heading 0)) ≡ Ok p → (p ≡ 2) × (a ∷ (b ∷ bs) ≡ 80 ∷ (49 ∷ bs)) × Ends bs × (0 < length bs)
@@ -40,7 +41,7 @@ headed_was (a ∷ (b ∷ bs)) p e = go (leb 2 (length (a ∷ (b ∷ bs))) && (eq
         let both = and_parts (eqb a 80) (eqb b 49) (and_parts (leb 2 (length (a ∷ (b ∷ bs)))) (eqb a 80 && eqb b 49) h).1 in
         let u = spaced_was bs p q in
         (u.0, (λ i. eqb-true a 80 both.0 i ∷ (eqb-true b 49 both.1 i ∷ bs)), u.1, u.2)
-    go false h q = let z : ◌≡◌ {A = ℕ} 0 1 = cc in absurd (omega arith)
+    go false h q = clash cc
 
 pub headed_reads : (bs : List ℕ) → Ends bs → 0 < length bs → headed (80 ∷ (49 ∷ bs)) ≡ Ok 2
 headed_reads [] w h = absurd (omega arith)
@@ -55,22 +56,22 @@ behind_it a b [] f p q e = inl ((λ i. p i ∷ (q i ∷ [])), let same : f ≡ f
 behind_it a b (c ∷ bs) f p q e = go (white c) refl (sym (cond-false _ _ _ (ne_eqb (length (c ∷ bs)) 0 (omega arith))) ∙ e)
   where
     longer : a ∷ (b ∷ (c ∷ bs)) ≡ 80 ∷ (49 ∷ []) → ⊥
-    longer k = let z : ◌≡◌ {A = ℕ} 0 1 = cc in omega arith
+    longer k = clash cc
 
     go : (w : Bool) → white c ≡ w → cond {A = Result ℕ Fault} w (Ok 2) (Err (fault Heading 0)) ≡ Err f
         → ((a ∷ (b ∷ (c ∷ bs)) ≡ 80 ∷ (49 ∷ [])) × (f ≡ fault Early (length (a ∷ (b ∷ (c ∷ bs)))))) ⊎ ((Headed (a ∷ (b ∷ (c ∷ bs))) → ⊥) × (a ∷ (b ∷ (c ∷ bs)) ≡ 80 ∷ (49 ∷ []) → ⊥) × (f ≡ fault Heading 0))
-    go true w k = let z : ◌≡◌ {A = ℕ} 0 1 = cc in absurd (omega arith)
+    go true w k = clash cc
     go false w k = inr (λ h. both_ways (white c) w (white_true c h.1), longer, let same : f ≡ fault Heading 0 = cc in same)
 
 pub headed_fault : (t : List ℕ) (f : Fault) → headed t ≡ Err f → ((t ≡ 80 ∷ (49 ∷ [])) × (f ≡ fault Early (length t))) ⊎ ((Headed t → ⊥) × (t ≡ 80 ∷ (49 ∷ []) → ⊥) × (f ≡ fault Heading 0))
 headed_fault [] f e = inr (λ h. nothing h.0, nothing, let same : f ≡ fault Heading 0 = cc in same)
   where
     nothing : {b : ℕ} {bs : List ℕ} → [] ≡ b ∷ bs → ⊥
-    nothing q = let z : ◌≡◌ {A = ℕ} 0 1 = cc in omega arith
+    nothing q = clash cc
 headed_fault (a ∷ []) f e = inr (λ h. single h.0, single, let same : f ≡ fault Heading 0 = cc in same)
   where
     single : {b c : ℕ} {bs : List ℕ} → a ∷ [] ≡ b ∷ (c ∷ bs) → ⊥
-    single q = let z : ◌≡◌ {A = ℕ} 0 1 = cc in omega arith
+    single q = clash cc
 headed_fault (a ∷ (b ∷ bs)) f e = go (leb 2 (length (a ∷ (b ∷ bs))) && (eqb a 80 && eqb b 49)) refl e
   where
     Goal : Type 0
