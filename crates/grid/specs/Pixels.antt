@@ -9,6 +9,7 @@
 --   pixel_at s k m p  the same, with the place p behind it
 --   stroke t s k at   pixel k of the text t from the place at
 --   Painting          an answer, the place where the lexer then stands, and the space
+--   painting_out o    what the painting o read
 --   brushed r at sp f what f paints behind a pixel of colour r; a fault ends the painting
 --   painted t s n k at sp
 --                     n pixels of the text t from the place at, the first of them pixel k, written into the space sp one byte each
@@ -58,6 +59,9 @@ pub record Painting : Type 0 where
   pub result : Result (Unit {0}) Fault
   pub at : ℕ
   pub space : List ℕ
+
+abbrev pub painting_out : Painting → Out (Unit {0})
+painting_out o = record { result = o.result; at = o.at }
 
 abbrev pub brushed : Result ℕ Fault → ℕ → List ℕ → (ℕ → Painting) → Painting
 brushed (Ok v) at sp f = f v

@@ -1,8 +1,8 @@
 // The pixels of a plan, read one by one into the caller's space.
 ghost use Rattle.std.specs.Prelude.{◌≡◌, ◌≤◌, length};
-ghost use Rattle.text.specs.Lexing.{text_of, at_of};
+ghost use Rattle.text.specs.Lexing.{text_of, at_of, Read};
 ghost use Rattle.grid.specs.Sizes.{area};
-ghost use Rattle.grid.specs.Pixels.{ink_of, pixel_of, stroke, painted};
+ghost use Rattle.grid.specs.Pixels.{ink_of, pixel_of, stroke, painted, painting_out};
 
 use crate::colours::rule_of_pixel;
 use crate::sizes::Size;
@@ -33,9 +33,7 @@ fn pixel(size: Size, k: usize, mark: (u8, usize)) -> Result<u8, Fault>
 
 // Pixel `k` from where the lexer stands.
 fn next_pixel(lexer: &mut Lexer, size: Size, k: usize) -> Result<u8, Fault>
-    ensures answer { result ≡ (stroke (text_of lexer.old) size k (at_of lexer.old)).result }
-    ensures stands { at_of lexer.new ≡ (stroke (text_of lexer.old) size k (at_of lexer.old)).at }
-    ensures same { text_of lexer.new ≡ text_of lexer.old }
+    ensures { Read (stroke (text_of lexer.old) size k (at_of lexer.old)) lexer.old lexer.new result }
 {
     let mark = lexer.expect_mark()?;
     pixel(size, k, mark)
@@ -44,9 +42,7 @@ fn next_pixel(lexer: &mut Lexer, size: Size, k: usize) -> Result<u8, Fault>
 // All pixels of a plan, one byte each, from the front of the space.
 pub(crate) fn paint(lexer: &mut Lexer, size: Size, space: &mut [u8]) -> Result<(), Fault>
     requires { area size ≤ length space.old }
-    ensures answer { result ≡ (painted (text_of lexer.old) size (area size) 0 (at_of lexer.old) space.old).result }
-    ensures stands { at_of lexer.new ≡ (painted (text_of lexer.old) size (area size) 0 (at_of lexer.old) space.old).at }
-    ensures same { text_of lexer.new ≡ text_of lexer.old }
+    ensures read { Read (painting_out (painted (text_of lexer.old) size (area size) 0 (at_of lexer.old) space.old)) lexer.old lexer.new result }
     ensures after { space.new ≡ (painted (text_of lexer.old) size (area size) 0 (at_of lexer.old) space.old).space }
 {
     for (k, pixel) in space[..size.area()].iter_mut().enumerate() {

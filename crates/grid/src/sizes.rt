@@ -1,6 +1,6 @@
 // The width and the height of a plan, in rooms.
 ghost use Rattle.std.specs.Prelude.{◌≡◌, ◌*◌};
-ghost use Rattle.text.specs.Lexing.{text_of, at_of};
+ghost use Rattle.text.specs.Lexing.{text_of, at_of, Read};
 ghost use Rattle.grid.specs.Doorways.{column, row};
 ghost use Rattle.grid.specs.Sizes.{side_of, sided, fitted, sized, across, area};
 
@@ -79,9 +79,7 @@ fn half(n: Number) -> Result<Side, Fault>
 }
 
 fn next_side(lexer: &mut Lexer) -> Result<Side, Fault>
-    ensures answer { result ≡ (sided (text_of lexer.old) (at_of lexer.old)).result }
-    ensures stands { at_of lexer.new ≡ (sided (text_of lexer.old) (at_of lexer.old)).at }
-    ensures same { text_of lexer.new ≡ text_of lexer.old }
+    ensures { Read (sided (text_of lexer.old) (at_of lexer.old)) lexer.old lexer.new result }
 {
     let n = lexer.number(false)?;
     half(n)
@@ -102,9 +100,7 @@ fn fit(w: Side, h: Side) -> Result<Size, Fault>
 }
 
 pub(crate) fn sizes(lexer: &mut Lexer) -> Result<Size, Fault>
-    ensures answer { result ≡ (sized (text_of lexer.old) (at_of lexer.old)).result }
-    ensures stands { at_of lexer.new ≡ (sized (text_of lexer.old) (at_of lexer.old)).at }
-    ensures same { text_of lexer.new ≡ text_of lexer.old }
+    ensures { Read (sized (text_of lexer.old) (at_of lexer.old)) lexer.old lexer.new result }
 {
     let w = next_side(lexer)?;
     let h = next_side(lexer)?;

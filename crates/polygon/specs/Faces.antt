@@ -2,6 +2,7 @@
 --   number t m at   the next corner number of the text t from the place at; it must be below m
 --   size t at       the corner count of a face, 3 to 16
 --   Facing          an answer, the place where the lexer then stands, and two spaces: the corner count of each face, and the corner numbers
+--   facing_out o    what was read of the faces
 --   faced t m n f used at ss ns
 --                   n faces, the first of them face f, from the place at: each one's corner count goes to its place in ss, its corner numbers
 --                   to ns, from the place used on; the answer is how many places of ns are then used
@@ -23,6 +24,9 @@ pub record Facing : Type 0 where
   pub at : ℕ
   pub sizes : List ℕ
   pub numbers : List ℕ
+
+abbrev pub facing_out : Facing → Out ℕ
+facing_out o = record { result = o.result; at = o.at }
 
 abbrev pub sized : Result ℕ Fault → ℕ → List ℕ → List ℕ → (ℕ → Facing) → Facing
 sized (Ok c) at ss ns f = f c

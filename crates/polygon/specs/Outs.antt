@@ -1,5 +1,6 @@
 -- Readings repeated.
 --   Filling A    an answer, the place where the lexer then stands, and the space
+--   filling_out o  what the filling o read
 --   filled one n k at sp
 --                n elements, each read by one, from the place at, written into the space sp from its place k on
 use Rattle.std.specs.Prelude.{ℕ, zero, suc, ◌+◌, List, Ok, Err, Result, slice_set}
@@ -10,6 +11,9 @@ pub record Filling (A : Type 0) : Type 0 where
   pub result : Result (Unit {0}) Fault
   pub at : ℕ
   pub space : List A
+
+abbrev pub filling_out : {A : Type 0} → Filling A → Out (Unit {0})
+filling_out o = record { result = o.result; at = o.at }
 
 abbrev pub put : {A : Type 0} → Result A Fault → ℕ → List A → (A → Filling A) → Filling A
 put (Ok v) at sp f = f v

@@ -1,8 +1,8 @@
 // The corners of a plan, read one by one into the caller's space.
 ghost use Rattle.std.specs.Prelude.{◌≡◌, ◌≤◌, length, IfOk, unsigned_abs};
-ghost use Rattle.text.specs.Lexing.{text_of, at_of};
+ghost use Rattle.text.specs.Lexing.{text_of, at_of, Read};
 ghost use Rattle.plane.specs.Limits.{PostAt};
-ghost use Rattle.polygon.specs.Outs.{filled};
+ghost use Rattle.polygon.specs.Outs.{filled, filling_out};
 ghost use Rattle.polygon.specs.Corners.{points, bounded, coordinate, corner};
 
 use crate::wholes::value_within;
@@ -26,9 +26,7 @@ fn coordinate_within(n: Number, most: usize) -> Result<i32, Fault>
 // The next coordinate.
 fn next_coordinate(lexer: &mut Lexer, most: usize) -> Result<i32, Fault>
     requires { most ≤ 10000 }
-    ensures answer { result ≡ (coordinate (text_of lexer.old) most (at_of lexer.old)).result }
-    ensures stands { at_of lexer.new ≡ (coordinate (text_of lexer.old) most (at_of lexer.old)).at }
-    ensures same { text_of lexer.new ≡ text_of lexer.old }
+    ensures read { Read (coordinate (text_of lexer.old) most (at_of lexer.old)) lexer.old lexer.new result }
     ensures bound { IfOk result (λ v. unsigned_abs v ≤ most) }
 {
     let n = lexer.number(true)?;
@@ -37,9 +35,7 @@ fn next_coordinate(lexer: &mut Lexer, most: usize) -> Result<i32, Fault>
 
 // The next corner's x and y; its z must be 0.
 fn next_corner(lexer: &mut Lexer) -> Result<(i32, i32), Fault>
-    ensures answer { result ≡ (corner (text_of lexer.old) (at_of lexer.old)).result }
-    ensures stands { at_of lexer.new ≡ (corner (text_of lexer.old) (at_of lexer.old)).at }
-    ensures same { text_of lexer.new ≡ text_of lexer.old }
+    ensures read { Read (corner (text_of lexer.old) (at_of lexer.old)) lexer.old lexer.new result }
     ensures bound { IfOk result (λ p. PostAt p) }
 {
     let x = next_coordinate(lexer, FARTHEST)?;
@@ -55,9 +51,7 @@ pub(crate) fn read_corners(
     space: &mut [Corner],
 ) -> Result<(), Fault>
     requires { total ≤ length space.old }
-    ensures answer { result ≡ (filled (corner (text_of lexer.old)) total 0 (at_of lexer.old) (points space.old)).result }
-    ensures stands { at_of lexer.new ≡ (filled (corner (text_of lexer.old)) total 0 (at_of lexer.old) (points space.old)).at }
-    ensures same { text_of lexer.new ≡ text_of lexer.old }
+    ensures read { Read (filling_out (filled (corner (text_of lexer.old)) total 0 (at_of lexer.old) (points space.old))) lexer.old lexer.new result }
     ensures after { points space.new ≡ (filled (corner (text_of lexer.old)) total 0 (at_of lexer.old) (points space.old)).space }
 {
     for place in space[..total].iter_mut() {

@@ -1,8 +1,8 @@
 // The faces of a plan: corner counts and corner numbers, read one by one into space.
 ghost use Rattle.std.specs.Prelude.{◌≡◌, ◌+◌, ◌*◌, ◌≤◌, length, take, drop, IfOk};
-ghost use Rattle.text.specs.Lexing.{text_of, at_of};
-ghost use Rattle.polygon.specs.Outs.{filled};
-ghost use Rattle.polygon.specs.Faces.{number, faced};
+ghost use Rattle.text.specs.Lexing.{text_of, at_of, Read};
+ghost use Rattle.polygon.specs.Outs.{filled, filling_out};
+ghost use Rattle.polygon.specs.Faces.{number, faced, facing_out};
 
 use crate::wholes::whole_within;
 use text::{Fault, Ground, Lexer};
@@ -13,9 +13,7 @@ const TOO_MANY: usize = 17;
 // A corner number below `limit` for each of the places.
 fn read_numbers(lexer: &mut Lexer, limit: usize, places: &mut [u16]) -> Result<(), Fault>
     requires { limit ≤ 65536 }
-    ensures answer { result ≡ (filled (number (text_of lexer.old) limit) (length places.old) 0 (at_of lexer.old) places.old).result }
-    ensures stands { at_of lexer.new ≡ (filled (number (text_of lexer.old) limit) (length places.old) 0 (at_of lexer.old) places.old).at }
-    ensures same { text_of lexer.new ≡ text_of lexer.old }
+    ensures read { Read (filling_out (filled (number (text_of lexer.old) limit) (length places.old) 0 (at_of lexer.old) places.old)) lexer.old lexer.new result }
     ensures after { places.new ≡ (filled (number (text_of lexer.old) limit) (length places.old) 0 (at_of lexer.old) places.old).space }
 {
     for place in places.iter_mut() {
@@ -35,9 +33,7 @@ pub(crate) fn read_faces(
     requires few { total ≤ length sizes.old }
     requires room { 16 * total ≤ length numbers.old }
     requires small { limit ≤ 65536 }
-    ensures answer { result ≡ (faced (text_of lexer.old) limit total 0 0 (at_of lexer.old) sizes.old numbers.old).result }
-    ensures stands { at_of lexer.new ≡ (faced (text_of lexer.old) limit total 0 0 (at_of lexer.old) sizes.old numbers.old).at }
-    ensures same { text_of lexer.new ≡ text_of lexer.old }
+    ensures read { Read (facing_out (faced (text_of lexer.old) limit total 0 0 (at_of lexer.old) sizes.old numbers.old)) lexer.old lexer.new result }
     ensures sizes { sizes.new ≡ (faced (text_of lexer.old) limit total 0 0 (at_of lexer.old) sizes.old numbers.old).sizes }
     ensures numbers { numbers.new ≡ (faced (text_of lexer.old) limit total 0 0 (at_of lexer.old) sizes.old numbers.old).numbers }
     ensures bound { IfOk result (λ used. used ≤ 16 * total) }

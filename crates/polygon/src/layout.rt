@@ -1,6 +1,6 @@
 // The layout of a plan's text: the heading, the counts, the corners, the faces, and nothing more.
 ghost use Rattle.std.specs.Prelude.{◌≡◌, ◌<◌, ◌≤◌, length, IfOk};
-ghost use Rattle.text.specs.Lexing.{text_of, at_of};
+ghost use Rattle.text.specs.Lexing.{text_of, at_of, Read};
 ghost use Rattle.polygon.specs.Corners.{points};
 ghost use Rattle.polygon.specs.Layouts.{totals, laid};
 
@@ -21,9 +21,7 @@ pub struct Plan {
 
 // The counts of corners and faces; the count of edges is read and not used.
 fn read_totals(lexer: &mut Lexer) -> Result<(usize, usize), Fault>
-    ensures answer { result ≡ (totals (text_of lexer.old) (at_of lexer.old)).result }
-    ensures stands { at_of lexer.new ≡ (totals (text_of lexer.old) (at_of lexer.old)).at }
-    ensures same { text_of lexer.new ≡ text_of lexer.old }
+    ensures read { Read (totals (text_of lexer.old) (at_of lexer.old)) lexer.old lexer.new result }
     ensures bound { IfOk result (λ n. (n.0 ≤ 1024) × (n.1 ≤ 256)) }
 {
     let corners = whole_within(lexer, Ground::Limits, 3, 1025)?;

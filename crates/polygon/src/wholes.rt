@@ -1,6 +1,6 @@
 // Numbers within limits.
 ghost use Rattle.std.specs.Prelude.{◌≡◌, ◌<◌, ◌≤◌, IfOk};
-ghost use Rattle.text.specs.Lexing.{text_of, at_of};
+ghost use Rattle.text.specs.Lexing.{text_of, at_of, Read};
 ghost use Rattle.polygon.specs.Wholes.{limited, whole};
 
 use text::{Fault, Ground, Lexer, Number};
@@ -30,9 +30,7 @@ pub(crate) fn whole_within(
     least: usize,
     below: usize,
 ) -> Result<usize, Fault>
-    ensures answer { result ≡ (whole (text_of lexer.old) ground least below (at_of lexer.old)).result }
-    ensures stands { at_of lexer.new ≡ (whole (text_of lexer.old) ground least below (at_of lexer.old)).at }
-    ensures same { text_of lexer.new ≡ text_of lexer.old }
+    ensures read { Read (whole (text_of lexer.old) ground least below (at_of lexer.old)) lexer.old lexer.new result }
     ensures bound { IfOk result (λ v. (least ≤ v) × (v < below)) }
 {
     let n = lexer.number(false)?;

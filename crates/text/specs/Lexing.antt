@@ -2,11 +2,12 @@
 --   text_of x, at_of x, state_of x   the text that x reads, the place where it stands, its state
 --   turned s x b                     the turn of x at the byte b
 --   Out A                            an answer, and the place where the lexer then stands
+--   Read o x y r                     the lexer x has read the outcome o: r is its answer, and x has become y, which stands at its place in the same text
 --   finished len st                  what the end of a text of length len makes of the state st
 --   scanned s len at st bs           the bytes bs, which begin at the place at, read from the state st, up to a number's end or a fault
 --   rest_of s x                      what x reads on from where it stands
 --   numbered s t at                  the next number of the text t from the place at; s says whether a sign may stand
-use Rattle.std.specs.Prelude.{ℕ, ◌+◌, Bool, List, [], ◌∷◌, length, drop, Ok, Err, Result}
+use Rattle.std.specs.Prelude.{◌≡◌, ℕ, ◌+◌, Bool, List, [], ◌∷◌, length, drop, Ok, Err, Result}
 use Rattle.text.specs.declared.faults.Fault.{Fault}
 use Rattle.text.specs.declared.faults.Ground.TheVariants.{Early}
 use Rattle.text.specs.declared.lexing.Lexer.{Lexer}
@@ -32,6 +33,11 @@ turned s x b = turn s (at_of x) (state_of x) (class b)
 pub record Out (A : Type 0) : Type 0 where
   pub result : Result A Fault
   pub at : ℕ
+
+pub record Read {A : Type 0} (o : Out A) (x y : Lexer) (r : Result A Fault) : Type 0 where
+  pub answer : r ≡ o.result
+  pub stands : at_of y ≡ o.at
+  pub same : text_of y ≡ text_of x
 
 abbrev pub finished : ℕ → State → Result Number Fault
 finished len Between = Err (fault Early len)

@@ -4,7 +4,7 @@ ghost use Rattle.text.specs.Turns.{begun, extended, told, state_after, at_after,
 ghost use Rattle.text.specs.declared.lexing.State.TheVariants.{Between};
 ghost use Rattle.text.specs.Marks.{marked, expected, over, Found};
 ghost use Rattle.text.specs.Numerals.{Settled};
-ghost use Rattle.text.specs.Lexing.{text_of, at_of, state_of, turned, finished, rest_of, numbered};
+ghost use Rattle.text.specs.Lexing.{text_of, at_of, state_of, turned, finished, rest_of, numbered, Read};
 
 use crate::bytes::{Class, class_of, is_white};
 use crate::faults::{Fault, Ground};
@@ -125,9 +125,7 @@ impl<'a> Lexer<'a> {
     // Reads on from the state that the lexer is in, up to a number's end or a fault.
     fn scan(&mut self, signed: bool) -> Result<Number, Fault>
         requires { Sound (state_of self.old) }
-        ensures answer { result ≡ (rest_of signed self.old).result }
-        ensures stands { at_of self.new ≡ (rest_of signed self.old).at }
-        ensures same { text_of self.new ≡ text_of self.old }
+        ensures { Read (rest_of signed self.old) self.old self.new result }
     {
         while let Some(b) = self.peek() {
             if let Some(n) = self.step(b, signed)? {
@@ -149,9 +147,7 @@ impl<'a> Lexer<'a> {
 
     // The next number. A minus sign may stand before it where `signed` says so.
     pub fn number(&mut self, signed: bool) -> Result<Number, Fault>
-        ensures answer { result ≡ (numbered signed (text_of self.old) (at_of self.old)).result }
-        ensures stands { at_of self.new ≡ (numbered signed (text_of self.old) (at_of self.old)).at }
-        ensures same { text_of self.new ≡ text_of self.old }
+        ensures read { Read (numbered signed (text_of self.old) (at_of self.old)) self.old self.new result }
         ensures ready { state_of self.new ≡ Between }
         ensures bound { IfOk result (λ n. n.magnitude < 10 ^ 6) }
         ensures settled { Settled signed (text_of self.old) (at_of self.old) result (at_of self.new) }
@@ -193,9 +189,7 @@ impl<'a> Lexer<'a> {
 
     // The next byte that is no white space, with its place, in a text that may not end before it.
     pub fn expect_mark(&mut self) -> Result<(u8, usize), Fault>
-        ensures answer { result ≡ (expected (text_of self.old) (at_of self.old)).result }
-        ensures stands { at_of self.new ≡ (expected (text_of self.old) (at_of self.old)).at }
-        ensures same { text_of self.new ≡ text_of self.old }
+        ensures read { Read (expected (text_of self.old) (at_of self.old)) self.old self.new result }
         ensures ready { state_of self.new ≡ state_of self.old }
     {
         match self.mark() {

@@ -16,9 +16,7 @@ returns-in_err-pixel c =
     let p = err_from_is_err_and c.from_residual.result c.from_residual.ensures.1 in
     let q = loop_err x.text.now s (area s) c.loop-k.k x.at (items ++ drop (area s) sp) _ c.loop-k.invariant.0 (omega (arith, length-take c.area.result sp, c.area.ensures)) _ (sym told.answer ∙ c.in_err-pixel.was) in
     record {
-      answer = p.1 ∙ ap Err p.2 ∙ q.0;
-      stands = told.stands ∙ q.1;
-      same = told.same ∙ c.loop-k.invariant.1;
+      read = record { answer = p.1 ∙ ap Err p.2 ∙ q.0; stands = told.stands ∙ q.1; same = told.same ∙ c.loop-k.invariant.1 };
       after = (λ i. set-get_or items c.loop-k.k 0 i ++ drop (c.area.ensures i) sp) ∙ q.2;
     }
 
@@ -44,4 +42,4 @@ returns c =
     let sp = c.args.space.now in
     let x = c.loop-k.lexer in
     let q = loop_end x.text.now s (area s) c.loop-k.k x.at (c.loop-k.pixel-items ++ drop (area s) sp) _ c.loop-k.invariant.0 (omega (arith, length-take c.area.result sp, c.area.ensures)) in
-    record { answer = q.0; stands = q.1; same = c.loop-k.invariant.1; after = ap (λ n. c.loop-k.pixel-items ++ drop n sp) c.area.ensures ∙ q.2 }
+    record { read = record { answer = q.0; stands = q.1; same = c.loop-k.invariant.1 }; after = ap (λ n. c.loop-k.pixel-items ++ drop n sp) c.area.ensures ∙ q.2 }

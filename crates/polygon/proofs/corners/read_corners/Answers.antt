@@ -12,11 +12,11 @@ returns-in_err-x c =
     let x = c.loop-place.lexer in
     let k = c.loop-place.place-index in
     let rest = drop c.args.total c.args.space.now in
-    let told = c.next_corner.ensures in
+    let told = c.next_corner.ensures.read in
     let many : length c.loop-place.place-items ≡ c.args.total = omega (arith, length-take-le c.args.total c.args.space.now c.requires) in
     let p = err_from_is_err_and c.from_residual.result c.from_residual.ensures.1 in
     let q = loop_err (corner x.text.now) c.args.total k k x.at (points (c.loop-place.place-items ++ rest)) _ c.loop-place.invariant.0 (omega (arith, many, c.loop-place-test.true)) _ (sym told.answer ∙ c.in_err-x.was) in
-    record { answer = p.1 ∙ ap Err p.2 ∙ q.0; stands = told.stands ∙ q.1; same = told.same ∙ c.loop-place.invariant.1; after = ap (λ l. points (l ++ rest)) (set-get_or c.loop-place.place-items k c.place-item.result) ∙ q.2 }
+    record { read = record { answer = p.1 ∙ ap Err p.2 ∙ q.0; stands = told.stands ∙ q.1; same = told.same ∙ c.loop-place.invariant.1 }; after = ap (λ l. points (l ++ rest)) (set-get_or c.loop-place.place-items k c.place-item.result) ∙ q.2 }
 
 pub loop-place-preserved : goal.loop-place-preserved
 loop-place-preserved c =
@@ -24,7 +24,7 @@ loop-place-preserved c =
     let k = c.loop-place.place-index in
     let items = c.loop-place.place-items in
     let rest = drop c.args.total c.args.space.now in
-    let told = c.next_corner.ensures in
+    let told = c.next_corner.ensures.read in
     let many : length items ≡ c.args.total = omega (arith, length-take-le c.args.total c.args.space.now c.requires) in
     let here : k < length items = omega (arith, many, c.loop-place-test.true, length-take-le c.args.total c.args.space.now c.requires) in
     let fx : SFits w32 c.in_ok-x.x = search rules in
@@ -41,4 +41,4 @@ returns c =
     let k = c.loop-place.place-index in
     let many : length c.loop-place.place-items ≡ c.args.total = omega (arith, length-take-le c.args.total c.args.space.now c.requires) in
     let q = loop_end (corner x.text.now) c.args.total k k x.at (points (c.loop-place.place-items ++ drop c.args.total c.args.space.now)) _ c.loop-place.invariant.0 (omega (arith, many, c.loop-place-test.false)) in
-    record { answer = q.0; stands = q.1; same = c.loop-place.invariant.1; after = q.2 }
+    record { read = record { answer = q.0; stands = q.1; same = c.loop-place.invariant.1 }; after = q.2 }

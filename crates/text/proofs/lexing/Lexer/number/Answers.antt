@@ -8,9 +8,7 @@ returns c =
     let told = c.scan-answer.ensures in
     let all = settles c.args.signed c.args.self.now.text.now c.args.self.now.at _ _ told.answer told.stands in
     record {
-      answer = told.answer;
-      stands = told.stands;
-      same = told.same;
+      read = record { answer = told.answer; stands = told.stands; same = told.same };
       ready = refl;
       bound = bounded _ _ _ _ _ all.spelt;
       settled = all;
