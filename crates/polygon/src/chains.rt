@@ -9,7 +9,8 @@ use text::{Fault, Ground};
 
 const HEADS: usize = 1024;
 
-// The chains of the first `known` edges: the latest edge for each rest, and for each edge the one before it.
+// The chains of the first `known` edges: the latest edge for each rest, and for each edge the one before it. They lie in the
+// value, since nothing is allocated.
 #[derive(Drop)]
 pub struct Chains<'a> {
     pub(crate) edges: &'a [Edge],
@@ -42,7 +43,7 @@ impl<'a> Chains<'a> {
             heads: [None; 1024],
             nexts: [None; 4096],
         };
-        for edge in edges.iter() {
+        for edge in edges {
             if chains.find(edge.from, edge.to).is_some() {
                 return Err(Fault::new(Ground::Edge, usize::from(edge.face)));
             }
@@ -77,6 +78,6 @@ impl<'a> Chains<'a> {
         let b = usize::from(self.edges[e].from) % HEADS;
         self.nexts[e] = self.heads[b];
         self.heads[b] = Some(e as u16);
-        self.known = e + 1;
+        self.known += 1;
     }
 }

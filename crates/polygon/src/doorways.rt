@@ -35,7 +35,7 @@ fn doorway_of(corners: &[Corner], chains: &Chains, edge: Edge) -> Option<Passage
     })
 }
 
-// Writes the doorways into the space, and answers how many there are.
+// Writes the doorways in front into the space, and answers how many there are.
 pub(crate) fn list_doorways(corners: &[Corner], chains: &Chains, space: &mut [Passage]) -> usize
     requires known { chains.now.known ≡ length chains.now.edges.now }
     requires room { 2048 ≤ length space.old }

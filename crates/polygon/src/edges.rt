@@ -20,7 +20,7 @@ fn edge_of(face: &[u16], f: u8, i: usize) -> Edge
     }
 }
 
-// Adds the edges of face f.
+// Adds the edges of face f. Each goes by its place, since it takes the corner behind too.
 fn list_face(face: &[u16], f: u8, edges: &mut ArrayVec<Edge, 4096>)
     requires { array_vec_len edges.old + length face.now ≤ 4096 }
     ensures { edges.new.items ≡ edges.old.items ++ edges_to face.now f (length face.now) }
