@@ -4,13 +4,13 @@ use Rattle.std.proofs.lemmas.Bool.{ltb-true, ltb-false, le-ltb, cond-false}
 use Rattle.text.specs.declared.faults.Fault.{Fault}
 use Rattle.text.specs.declared.faults.Ground.TheVariants.{Early, Heading, Limits, Over, Space}
 use Rattle.text.specs.Faults.{fault}
-use Rattle.text.specs.Marks.{marked, Found}
+use Rattle.text.specs.Marks.{marked, left_over, over, Found}
 use Rattle.text.proofs.Marks.{finds}
 use Rattle.grid.specs.declared.sizes.Size.{Size}
 use Rattle.grid.specs.Sizes.{sized, across, area}
 use Rattle.grid.specs.Pixels.{painted}
 use Rattle.grid.specs.Headings.{headed}
-use Rattle.grid.specs.Plans.{left_over, over, Plan, ended, finished, at_size, at_heading, planned, zeros, kept, answered}
+use Rattle.grid.specs.Plans.{Plan, ended, finished, at_size, at_heading, planned, zeros, kept, answered}
 use Rattle.grid.specs.Refusals as refusals
 use Rattle.grid.specs.Refusals.{Headed, Sized, Begun, Faulty, Blamed, bare, headless, bad_width, wrong_width, bad_height, wrong_height, few, stray, miscoloured}
 use Rattle.grid.proofs.Starts.{headed_was, headed_fault}

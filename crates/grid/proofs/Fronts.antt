@@ -9,9 +9,10 @@ use Rattle.text.specs.declared.faults.Ground.TheVariants.{Early, Stray, Colour a
 use Rattle.text.specs.Bytes.{White, white}
 use Rattle.text.specs.Faults.{fault}
 use Rattle.text.specs.Marks.{marked, Found}
+use Rattle.text.specs.Outs.{at_ok}
 use Rattle.text.proofs.Marks.{finds}
 use Rattle.grid.specs.declared.sizes.Size.{Size}
-use Rattle.grid.specs.Outs.{at_ok, behind}
+use Rattle.grid.specs.Outs.{behind}
 use Rattle.grid.specs.Sizes.{across}
 use Rattle.grid.specs.Pixels.{rule_of, allowed, ink_of, coloured, pixel_of, pixel_at, stroke, painted}
 use Rattle.grid.specs.Pictures.{ink}

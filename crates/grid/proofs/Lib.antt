@@ -10,6 +10,7 @@ pub mod Meanings
 pub mod Fronts
 pub mod Blames
 pub mod Between
+pub mod Drawings
 pub mod Openings
 pub mod Joined
 pub mod Pictured

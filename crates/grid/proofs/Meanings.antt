@@ -6,14 +6,14 @@ use Rattle.std.proofs.lemmas.Bool.{cond-true, cond-false, lt-ltb, le-ltb, ltb-fa
 use Rattle.text.specs.declared.faults.Fault.{Fault}
 use Rattle.text.specs.declared.faults.Ground.TheVariants.{Space, Limits}
 use Rattle.text.specs.Faults.{fault}
-use Rattle.text.specs.Marks.{marked}
+use Rattle.text.specs.Marks.{marked, left_over, over}
 use Rattle.text.specs.Numerals.{Ends}
 use Rattle.text.proofs.Plain.{gap}
 use Rattle.grid.specs.declared.sizes.Size.{Size}
 use Rattle.grid.specs.Sizes.{sized, Roomy, area}
 use Rattle.grid.specs.Pixels.{painted}
 use Rattle.grid.specs.Headings.{headed}
-use Rattle.grid.specs.Plans.{left_over, over, Plan, ended, finished, at_size, at_heading, planned, zeros, kept, answered}
+use Rattle.grid.specs.Plans.{Plan, ended, finished, at_size, at_heading, planned, zeros, kept, answered}
 use Rattle.grid.specs.Pictures.{ink, Spaces, Legal, Spelling, Understood}
 use Rattle.grid.proofs.Areas.{area_fits}
 use Rattle.grid.proofs.Starts.{headed_was, headed_reads}

@@ -8,8 +8,9 @@ use Rattle.text.specs.declared.faults.Fault.{Fault}
 use Rattle.text.specs.declared.faults.Ground.TheVariants.{Early, Colour as WrongColour}
 use Rattle.text.specs.Faults.{fault}
 use Rattle.text.specs.Marks.{marked}
+use Rattle.text.specs.Outs.{at_ok}
 use Rattle.grid.specs.declared.sizes.Size.{Size}
-use Rattle.grid.specs.Outs.{at_ok, behind}
+use Rattle.grid.specs.Outs.{behind}
 use Rattle.grid.specs.Sizes.{across}
 use Rattle.grid.specs.Pixels.{rule_of, allowed, ink_of, coloured, pixel_of, pixel_at, stroke, painted}
 use Rattle.grid.specs.Pictures.{ink, Colour}

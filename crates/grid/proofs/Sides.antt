@@ -7,11 +7,11 @@ use Rattle.text.specs.declared.faults.Ground.TheVariants.{Limits}
 use Rattle.text.specs.declared.lexing.Number.{Number}
 use Rattle.text.specs.Faults.{fault}
 use Rattle.text.specs.Lexing.{numbered}
+use Rattle.text.specs.Outs.{at_ok, next}
 use Rattle.text.proofs.Plain.{Plain, plain_reads, plain_found}
 use Rattle.text.specs.Numerals.{Reads}
 use Rattle.text.proofs.Numerals.{is_spelt}
 use Rattle.grid.specs.declared.sizes.Size.{Size}
-use Rattle.grid.specs.Outs.{at_ok, next}
 use Rattle.grid.specs.Refusals.{Side}
 use Rattle.grid.specs.Sizes.{side_of, halved, sided, fitted, fitting, with_height, sized, Roomy, across}
 

@@ -8,20 +8,21 @@ use Rattle.text.specs.Faults.{fault}
 use Rattle.text.specs.Bytes.{White, white}
 use Rattle.text.specs.Numerals.{Ends}
 use Rattle.text.proofs.Classes.{white_true, white_from_true}
-use Rattle.grid.specs.Headings.{spaced, headed}
+use Rattle.text.specs.Headings.{spaced}
+use Rattle.grid.specs.Headings.{headed}
 use Rattle.grid.specs.Refusals.{Headed}
 
 module _ (t : List ℕ) (long : 2 ≤ length t) (first : get_or t 0 0 ≡ 80) (second : get_or t 1 0 ≡ 49) where
-  pub headed_is : headed t ≡ spaced (drop 2 t)
+  pub headed_is : headed t ≡ spaced 2 (drop 2 t)
   headed_is =
-      cond-true _ (spaced (drop 2 t)) (Err (fault Heading 0))
+      cond-true _ (spaced 2 (drop 2 t)) (Err (fault Heading 0))
       (and_from (leb 2 (length t)) (eqb (get_or t 0 0) 80 && eqb (get_or t 1 0) 49) (le-leb 2 (length t) long) (and_from (eqb (get_or t 0 0) 80) (eqb (get_or t 1 0) 49) (eq-eqb (get_or t 0 0) 80 first) (eq-eqb (get_or t 1 0) 49 second)))
 
-  pub heading_is : (r : Result ℕ Fault) → r ≡ spaced (take (length t - 2) (drop 2 t)) → r ≡ headed t
-  heading_is r e = e ∙ ap spaced (take_rest t 2) ∙ sym headed_is
+  pub heading_is : (r : Result ℕ Fault) → r ≡ spaced 2 (take (length t - 2) (drop 2 t)) → r ≡ headed t
+  heading_is r e = e ∙ ap (spaced 2) (take_rest t 2) ∙ sym headed_is
 
 -- a heading that is read stands there, with white space behind it
-spaced_was : (bs : List ℕ) (p : ℕ) → spaced bs ≡ Ok p → (p ≡ 2) × Ends bs × (0 < length bs)
+spaced_was : (bs : List ℕ) (p : ℕ) → spaced 2 bs ≡ Ok p → (p ≡ 2) × Ends bs × (0 < length bs)
 spaced_was [] p e = let z : ◌≡◌ {A = ℕ} 0 1 = cc in absurd (omega arith)
 spaced_was (b ∷ bs) p e = go (white b) refl (sym (cond-false _ _ _ (ne_eqb (length (b ∷ bs)) 0 (omega arith))) ∙ e)
   where
@@ -34,7 +35,7 @@ headed_was [] p e = let z : ◌≡◌ {A = ℕ} 0 1 = cc in absurd (omega arith)
 headed_was (a ∷ []) p e = let z : ◌≡◌ {A = ℕ} 0 1 = cc in absurd (omega arith)
 headed_was (a ∷ (b ∷ bs)) p e = go (leb 2 (length (a ∷ (b ∷ bs))) && (eqb a 80 && eqb b 49)) refl e
   where
-    go : (h : Bool) → (leb 2 (length (a ∷ (b ∷ bs))) && (eqb a 80 && eqb b 49)) ≡ h → cond h (spaced bs) (Err (fault Heading 0)) ≡ Ok p → (p ≡ 2) × (a ∷ (b ∷ bs) ≡ 80 ∷ (49 ∷ bs)) × Ends bs × (0 < length bs)
+    go : (h : Bool) → (leb 2 (length (a ∷ (b ∷ bs))) && (eqb a 80 && eqb b 49)) ≡ h → cond h (spaced 2 bs) (Err (fault Heading 0)) ≡ Ok p → (p ≡ 2) × (a ∷ (b ∷ bs) ≡ 80 ∷ (49 ∷ bs)) × Ends bs × (0 < length bs)
     go true h q =
         let both = and_parts (eqb a 80) (eqb b 49) (and_parts (leb 2 (length (a ∷ (b ∷ bs)))) (eqb a 80 && eqb b 49) h).1 in
         let u = spaced_was bs p q in
@@ -48,7 +49,7 @@ headed_reads (b ∷ bs) w h =
     ∙ cond-false _ _ _ (ne_eqb (length (b ∷ bs)) 0 (omega arith)) ∙ cond-true _ _ _ (white_true b w)
 
 -- why a heading is refused
-behind_it : (a b : ℕ) (bs : List ℕ) (f : Fault) → a ≡ 80 → b ≡ 49 → spaced bs ≡ Err f
+behind_it : (a b : ℕ) (bs : List ℕ) (f : Fault) → a ≡ 80 → b ≡ 49 → spaced 2 bs ≡ Err f
     → ((a ∷ (b ∷ bs) ≡ 80 ∷ (49 ∷ [])) × (f ≡ fault Early (length (a ∷ (b ∷ bs))))) ⊎ ((Headed (a ∷ (b ∷ bs)) → ⊥) × (a ∷ (b ∷ bs) ≡ 80 ∷ (49 ∷ []) → ⊥) × (f ≡ fault Heading 0))
 behind_it a b [] f p q e = inl ((λ i. p i ∷ (q i ∷ [])), let same : f ≡ fault Early 2 = cc in same)
 behind_it a b (c ∷ bs) f p q e = go (white c) refl (sym (cond-false _ _ _ (ne_eqb (length (c ∷ bs)) 0 (omega arith))) ∙ e)
@@ -75,7 +76,7 @@ headed_fault (a ∷ (b ∷ bs)) f e = go (leb 2 (length (a ∷ (b ∷ bs))) && (
     Goal : Type 0
     Goal = ((a ∷ (b ∷ bs) ≡ 80 ∷ (49 ∷ [])) × (f ≡ fault Early (length (a ∷ (b ∷ bs))))) ⊎ ((Headed (a ∷ (b ∷ bs)) → ⊥) × (a ∷ (b ∷ bs) ≡ 80 ∷ (49 ∷ []) → ⊥) × (f ≡ fault Heading 0))
 
-    go : (h : Bool) → (leb 2 (length (a ∷ (b ∷ bs))) && (eqb a 80 && eqb b 49)) ≡ h → cond h (spaced bs) (Err (fault Heading 0)) ≡ Err f → Goal
+    go : (h : Bool) → (leb 2 (length (a ∷ (b ∷ bs))) && (eqb a 80 && eqb b 49)) ≡ h → cond h (spaced 2 bs) (Err (fault Heading 0)) ≡ Err f → Goal
     go true h q =
         let both = and_parts (eqb a 80) (eqb b 49) (and_parts (leb 2 (length (a ∷ (b ∷ bs)))) (eqb a 80 && eqb b 49) h).1 in
         behind_it a b bs f (eqb-true a 80 both.0) (eqb-true b 49 both.1) q

@@ -7,9 +7,10 @@
 --   opening s ps k        whether pixel k stands between two rooms, and is open
 --   openings s ps n       the doorways of the openings among the first n pixels, in reading order
 --   grid_doorways s ps    those of the whole plan
+--   right_pixel s p       whether the pixel p, a number in reading order with a colour, is 0 or 1, and of a right colour
 --   Drawn s ps            the space ps holds a plan of size s
 --   Pictured s ps n ds    the map of n rooms and the doorways ds is the plan's, or that of one room where there is no plan
-use Rattle.std.specs.Prelude.{◌≡◌, ℕ, zero, suc, ◌+◌, ◌-◌, ◌*◌, ◌/◌, ◌%◌, ◌<◌, ◌≤◌, Bool, true, false, cond, ◌&&◌, ◌⊎◌, List, [], ◌∷◌, ◌++◌, map, length, pos, ◌==◌, slice_index}
+use Rattle.std.specs.Prelude.{◌≡◌, ℕ, zero, suc, ◌+◌, ◌-◌, ◌*◌, ◌/◌, ◌%◌, ◌<◌, ◌≤◌, Bool, true, false, cond, ◌&&◌, ◌⊎◌, List, [], ◌∷◌, ◌++◌, map, length, pos, ◌==◌, nat_lt, slice_index}
 use Rattle.maps.specs.declared.doorway.Doorway.{Doorway}
 use Rattle.maps.specs.declared.passage.Passage.{Passage}
 use Rattle.maps.specs.Passages.{plain}
@@ -17,7 +18,7 @@ use Rattle.grid.specs.declared.colours.Rule.{Rule}
 use Rattle.grid.specs.declared.colours.Rule.TheVariants.{Room, Wall, Free}
 use Rattle.grid.specs.declared.sizes.Size.{Size}
 use Rattle.grid.specs.Pictures.{Colour}
-use Rattle.grid.specs.Pixels.{odd, rule_of}
+use Rattle.grid.specs.Pixels.{odd, rule_of, allowed}
 use Rattle.grid.specs.Sizes.{Roomy, across, area}
 
 abbrev pub column : Size → ℕ → ℕ
@@ -66,6 +67,9 @@ openings s ps (suc n) = openings s ps n ++ cond (opening s ps n) (passage_at s n
 
 abbrev pub grid_doorways : Size → List ℕ → List Passage
 grid_doorways s ps = openings s ps (area s)
+
+abbrev pub right_pixel : Size → ℕ × ℕ → Bool
+right_pixel s p = nat_lt p.1 2 && allowed (rule_of s (column s p.0) (row s p.0)) p.1
 
 -- the space ps holds the pixels of a plan of size s: each is 0 or 1, and of a right colour
 abbrev pub Drawn : Size → List ℕ → Type 0

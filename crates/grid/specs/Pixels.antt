@@ -18,10 +18,11 @@ use Rattle.text.specs.declared.faults.Ground.TheVariants.{Stray, Colour}
 use Rattle.text.specs.Faults.{fault}
 use Rattle.text.specs.Lexing.{Out}
 use Rattle.text.specs.Marks.{expected}
+use Rattle.text.specs.Outs.{next}
 use Rattle.grid.specs.declared.colours.Rule.{Rule}
 use Rattle.grid.specs.declared.colours.Rule.TheVariants.{Room, Wall, Free}
 use Rattle.grid.specs.declared.sizes.Size.{Size}
-use Rattle.grid.specs.Outs.{next, behind}
+use Rattle.grid.specs.Outs.{behind}
 use Rattle.grid.specs.Sizes.{across}
 
 abbrev pub odd : ℕ → Bool

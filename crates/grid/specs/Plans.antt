@@ -1,6 +1,4 @@
 -- What the reader makes of a text and a space.
---   left_over r     a mark r behind the last pixel is a fault
---   over t at       only white space may be left of the text t from the place at
 --   Plan            an answer and the space
 --   ended s r sp    the plan of size s, if r, what is left over, is no fault
 --   finished t s r at sp
@@ -13,22 +11,15 @@
 --   kept p n        the plan p, but after a fault the space holds n zeros
 --   answered t sp   the reader's answer and the caller's space: a space too short is refused and left as it was; else the space is
 --                   cleared, and it stays clear where the text is refused
-use Rattle.std.specs.Prelude.{ℕ, cond, List, length, replicate, Some, None, Ok, Err, Option, Result, nat_lt}
+use Rattle.std.specs.Prelude.{ℕ, cond, List, length, replicate, Ok, Err, Result, nat_lt}
 use Rattle.text.specs.declared.faults.Fault.{Fault}
-use Rattle.text.specs.declared.faults.Ground.TheVariants.{Space, Limits, Over}
+use Rattle.text.specs.declared.faults.Ground.TheVariants.{Space, Limits}
 use Rattle.text.specs.Faults.{fault}
-use Rattle.text.specs.Marks.{marked}
+use Rattle.text.specs.Marks.{over}
 use Rattle.grid.specs.declared.sizes.Size.{Size}
 use Rattle.grid.specs.Sizes.{sized, area}
 use Rattle.grid.specs.Pixels.{Painting, painted}
 use Rattle.grid.specs.Headings.{headed}
-
-abbrev pub left_over : Option (ℕ × ℕ) → Result (Unit {0}) Fault
-left_over None = Ok tt
-left_over (Some m) = Err (fault Over m.1)
-
-abbrev pub over : List ℕ → ℕ → Result (Unit {0}) Fault
-over t at = left_over (marked t at).found
 
 pub record Plan : Type 0 where
   pub result : Result Size Fault

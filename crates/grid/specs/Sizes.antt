@@ -16,8 +16,8 @@ use Rattle.text.specs.declared.faults.Ground.TheVariants.{Limits}
 use Rattle.text.specs.declared.lexing.Number.{Number}
 use Rattle.text.specs.Faults.{fault}
 use Rattle.text.specs.Lexing.{Out, numbered}
+use Rattle.text.specs.Outs.{next}
 use Rattle.grid.specs.declared.sizes.Size.{Size}
-use Rattle.grid.specs.Outs.{next}
 
 abbrev pub side_of : Number → Result (ℕ × ℕ) Fault
 side_of n = cond (nat_lt n.magnitude 3 || n.magnitude % 2 == 0) (Err (fault Limits n.start)) (Ok (n.magnitude / 2, n.start))

@@ -1,6 +1,7 @@
 // Which colour a pixel must have: 0 is open, 1 is wall.
 ghost use Rattle.std.specs.Prelude.{◌≡◌};
 ghost use Rattle.grid.specs.Pixels.{border, rule_of, allowed};
+ghost use Rattle.grid.specs.Doorways.{column, row};
 
 use crate::sizes::Size;
 
@@ -35,7 +36,7 @@ fn on_border(size: Size, column: usize, row: usize) -> bool
 }
 
 // The rule of the pixel in this column and row, counted from 0.
-pub(crate) fn rule_at(size: Size, column: usize, row: usize) -> Rule
+fn rule_at(size: Size, column: usize, row: usize) -> Rule
     ensures { result ≡ rule_of size column row }
 {
     let odd_column = column % 2 == 1;
@@ -47,4 +48,12 @@ pub(crate) fn rule_at(size: Size, column: usize, row: usize) -> Rule
     } else {
         Rule::Free
     }
+}
+
+// The rule of pixel k, counted in reading order from 0.
+pub(crate) fn rule_of_pixel(size: Size, k: usize) -> Rule
+    ensures { result ≡ rule_of size (column size k) (row size k) }
+{
+    let (column, row) = size.spot(k);
+    rule_at(size, column, row)
 }

@@ -1,48 +1,58 @@
-// Whether a space holds the pixels of a plan.
-ghost use Rattle.std.specs.Prelude.{◌≡◌, ℕ, ◌<◌, ◌≤◌, length, Decides, slice_index};
-ghost use Rattle.grid.specs.Doorways.{Drawn, column, row};
-ghost use Rattle.grid.specs.Pictures.{Colour};
+// The plan that a space holds.
+ghost use Rattle.std.specs.Prelude.{◌≡◌, length, take, Decides, MatchOption};
+ghost use Rattle.std.specs.List.{list_all, enumerate_from};
+ghost use Rattle.grid.specs.Doorways.{Drawn, right_pixel};
 ghost use Rattle.grid.specs.Sizes.{Roomy, area};
 
-use crate::colours::rule_at;
+use crate::colours::rule_of_pixel;
 use crate::sizes::Size;
 
-// Whether pixel k may have this colour.
-fn is_right(size: Size, pixel: u8, k: usize) -> bool
-    ensures { Decides result ((pixel < 2) × Colour size (column size k) (row size k) pixel) }
-{
-    pixel < 2 && rule_at(size, k % size.width(), k / size.width()).allows(pixel)
+// A plan with its pixels, all of right colours.
+#[derive(Clone, Copy)]
+pub(crate) struct Plan<'a> {
+    pub(crate) size: Size,
+    pub(crate) pixels: &'a [u8],
+    ghost whole: { length pixels.now ≡ area size },
+    ghost drawn: { Drawn size pixels.now },
 }
 
-// Whether all pixels of the plan have right colours.
-fn all_right(size: Size, pixels: &[u8]) -> bool
-    requires { area size ≤ length pixels.now }
-    ensures { Decides result ((k : ℕ) → k < area size → (slice_index pixels.now k < 2) × Colour size (column size k) (row size k) (slice_index pixels.now k)) }
+// Whether pixel k may have this colour.
+fn is_right(size: Size, k: usize, pixel: u8) -> bool
+    ensures { result ≡ right_pixel size (k, pixel) }
 {
-    for k in 0..size.area() {
-        if !is_right(size, pixels[k], k) {
-            return false;
-        }
-    }
-    true
+    pixel < 2 && rule_of_pixel(size, k).allows(pixel)
+}
+
+// Whether all these pixels have right colours.
+fn all_right(size: Size, pixels: &[u8]) -> bool
+    ensures { result ≡ list_all (right_pixel size) (enumerate_from 0 pixels.now) }
+{
+    pixels
+        .iter()
+        .enumerate()
+        .all(|(k, pixel)| is_right(size, k, *pixel))
 }
 
 // Whether the plan has a room, and at most 256.
 fn is_roomy(size: Size) -> bool
     ensures { Decides result (Roomy size) }
 {
-    size.w >= 1 && size.h >= 1 && usize::from(size.w) * usize::from(size.h) <= 256
+    size.w >= 1 && size.h >= 1 && size.rooms() <= 256
 }
 
-// Whether the space holds a plan of this size.
-pub(crate) fn is_drawn(size: Size, pixels: &[u8]) -> bool
-    ensures { Decides result (Drawn size pixels.now) }
-{
-    if !is_roomy(size) {
-        return false;
+impl<'a> Plan<'a> {
+    // The plan of this size whose pixels the space holds; nothing where it holds none.
+    pub(crate) fn of(size: Size, space: &'a [u8]) -> Option<Plan<'a>>
+        ensures { MatchOption result (Drawn size space.now → ⊥) (λ p. (p.size ≡ size) × (p.pixels.now ≡ take (area size) space.now)) }
+    {
+        if !is_roomy(size) {
+            return None;
+        }
+        let pixels = space.get(..size.area())?;
+        if all_right(size, pixels) {
+            Some(Plan { size, pixels })
+        } else {
+            None
+        }
     }
-    if size.area() > pixels.len() {
-        return false;
-    }
-    all_right(size, pixels)
 }

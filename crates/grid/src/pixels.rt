@@ -4,7 +4,7 @@ ghost use Rattle.text.specs.Lexing.{text_of, at_of};
 ghost use Rattle.grid.specs.Sizes.{area};
 ghost use Rattle.grid.specs.Pixels.{ink_of, pixel_of, stroke, painted};
 
-use crate::colours::rule_at;
+use crate::colours::rule_of_pixel;
 use crate::sizes::Size;
 use text::{Fault, Ground, Lexer};
 
@@ -24,8 +24,7 @@ fn pixel(size: Size, k: usize, mark: (u8, usize)) -> Result<u8, Fault>
     ensures { result ≡ pixel_of size k mark }
 {
     let ink = colour(mark)?;
-    let width = size.width();
-    if rule_at(size, k % width, k / width).allows(ink) {
+    if rule_of_pixel(size, k).allows(ink) {
         Ok(ink)
     } else {
         Err(Fault::new(Ground::Colour, mark.1))
@@ -50,9 +49,8 @@ pub(crate) fn paint(lexer: &mut Lexer, size: Size, space: &mut [u8]) -> Result<(
     ensures same { text_of lexer.new ≡ text_of lexer.old }
     ensures after { space.new ≡ (painted (text_of lexer.old) size (area size) 0 (at_of lexer.old) space.old).space }
 {
-    let total = size.area();
-    for k in 0..total {
-        space[k] = next_pixel(lexer, size, k)?;
+    for (k, pixel) in space[..size.area()].iter_mut().enumerate() {
+        *pixel = next_pixel(lexer, size, k)?;
     }
     Ok(())
 }

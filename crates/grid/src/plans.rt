@@ -1,29 +1,16 @@
 // A whole plan: its text read into the caller's space.
 ghost use Rattle.std.specs.Prelude.{◌≡◌, ◌≤◌, length};
-ghost use Rattle.text.specs.Lexing.{text_of, at_of};
-ghost use Rattle.grid.specs.Plans.{over, planned, zeros, answered};
+ghost use Rattle.grid.specs.Plans.{planned, answered};
 ghost use Rattle.grid.specs.Pictures.{Understood};
 ghost use Rattle.grid.specs.Refusals.{Blamed};
 
 use crate::headings::heading;
 use crate::pixels::paint;
 use crate::sizes::{Size, sizes};
-use text::{Fault, Ground, Lexer};
+use text::{Fault, Ground, Lexer, MOST_TEXT};
 
 // The caller's space: a byte for each pixel of the largest plan.
 const SPACE: usize = 1539;
-// At most this many bytes of text.
-const MOST_TEXT: usize = 60_000;
-
-// Only white space may be left.
-fn finish(lexer: &mut Lexer) -> Result<(), Fault>
-    ensures { result ≡ over (text_of lexer.old) (at_of lexer.old) }
-{
-    match lexer.mark() {
-        None => Ok(()),
-        Some((_, place)) => Err(Fault::new(Ground::Over, place)),
-    }
-}
 
 fn plan(text: &[u8], space: &mut [u8]) -> Result<Size, Fault>
     requires { 1539 ≤ length space.old }
@@ -37,16 +24,8 @@ fn plan(text: &[u8], space: &mut [u8]) -> Result<Size, Fault>
     let mut lexer = Lexer::new(text, at);
     let size = sizes(&mut lexer)?;
     paint(&mut lexer, size, space)?;
-    finish(&mut lexer)?;
+    lexer.expect_end()?;
     Ok(size)
-}
-
-fn clear(space: &mut [u8])
-    ensures { space.new ≡ zeros (length space.old) }
-{
-    for x in space.iter_mut() {
-        *x = 0;
-    }
 }
 
 // Reads the plan in `text` into `space`, one byte for each pixel and then zeros, and answers its size.
@@ -59,10 +38,10 @@ pub fn read(text: &[u8], space: &mut [u8]) -> Result<Size, Fault>
     if space.len() < SPACE {
         return Err(Fault::new(Ground::Space, 0));
     }
-    clear(space);
+    space.fill(0);
     let answer = plan(text, space);
     if answer.is_err() {
-        clear(space);
+        space.fill(0);
     }
     answer
 }

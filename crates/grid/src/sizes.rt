@@ -1,6 +1,7 @@
 // The width and the height of a plan, in rooms.
 ghost use Rattle.std.specs.Prelude.{◌≡◌, ◌*◌, ◌<◌, ◌≤◌, IfOk};
 ghost use Rattle.text.specs.Lexing.{text_of, at_of};
+ghost use Rattle.grid.specs.Doorways.{column, row};
 ghost use Rattle.grid.specs.Sizes.{side_of, sided, fitted, sized, Roomy, across, area};
 
 use text::{Fault, Ground, Lexer, Number};
@@ -28,6 +29,20 @@ impl Size {
         ensures { result ≡ area self }
     {
         self.width() * (2 * usize::from(self.h) + 1)
+    }
+
+    // All rooms.
+    pub(crate) fn rooms(self) -> usize
+        ensures { result ≡ self.w * self.h }
+    {
+        usize::from(self.w) * usize::from(self.h)
+    }
+
+    // The column and the row of pixel k, counted in reading order from 0.
+    pub(crate) fn spot(self, k: usize) -> (usize, usize)
+        ensures { result ≡ (column self k, row self k) }
+    {
+        (k % self.width(), k / self.width())
     }
 }
 

@@ -1,5 +1,5 @@
 // A doorway as six plain numbers, which nothing has tested yet; all zeros where none is held.
-#[derive(Clone, Copy, PartialEq, Debug)]
+#[derive(Clone, Copy, PartialEq, Debug, Default)]
 pub struct Passage {
     pub near: u8,
     pub far: u8,

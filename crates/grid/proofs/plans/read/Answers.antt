@@ -9,7 +9,7 @@ returns-then-is_err c =
       answer = search rules;
       after = search rules;
       blamed = blames c.args.text.now c.args.space.now c.plan-answer.result (search rules);
-      understood = understands c.args.text.now c.args.space.now c.plan-answer.result c.clear-then-is_err.new.space (search rules) (search rules);
+      understood = understands c.args.text.now c.args.space.now c.plan-answer.result c.fill-then-is_err.new.self (search rules) (search rules);
     }
 
 pub returns-else-is_err : goal.returns-else-is_err
