@@ -1,5 +1,5 @@
 -- What an accepted text gives, from the executable definitions.
-use Rattle.std.proofs.Common.{◌≡◌, ℕ, zero, suc, ◌+◌, ◌≤◌, true, false, ◌⊎◌, List, [], ◌∷◌, length, take, drop, replicate, Ok, Err, Result, sym, refl, ap, ◌∙◌, inl, inr, add-one, arith}
+use Rattle.std.proofs.Common.{◌≡◌, ℕ, ◌+◌, ◌≤◌, true, false, ◌⊎◌, List, [], ◌∷◌, length, take, drop, replicate, Ok, Err, Result, sym, refl, ap, ◌∙◌, inl, inr, arith}
 use Rattle.std.proofs.lemmas.List.{length-take, length-append, length-drop}
 use Rattle.std.proofs.lemmas.Bool.{cond-true, cond-false, cases_Bool}
 use Rattle.text.specs.declared.faults.Fault.{Fault}
@@ -14,10 +14,10 @@ use Rattle.polygon.specs.Chains.{once}
 use Rattle.polygon.specs.Convexity.{convex, shapely}
 use Rattle.polygon.specs.Counterclockwise.{Convex}
 use Rattle.polygon.specs.Doorways.{doorways}
-use Rattle.polygon.specs.Edges.{edge, edges_to, all_edges}
+use Rattle.polygon.specs.Edges.{edges_to, all_edges}
 use Rattle.polygon.specs.Layouts.{Layout, laid}
 use Rattle.polygon.specs.Plans.{at_once, opened_by}
-use Rattle.polygon.proofs.Listing.{edges_none, edges_more}
+use Rattle.polygon.proofs.Listing.{face_edges}
 use Rattle.polygon.proofs.Rounds.{convex_so}
 use Rattle.polygon.proofs.Shared.{distinct_is, doors_are, doors_half}
 
@@ -32,11 +32,7 @@ shapes_so ps k (s ∷ ss) ns e = go (cases_Bool (convex ps (take s ns))) (shapes
     go (inl t) more = (convex_so ps (take s ns) t, more (sym (cond-true (convex ps (take s ns)) (shapely ps (k + 1) ss (drop s ns)) (Err (fault Shape k)) t) ∙ e))
     go (inr f) more = absurd (never (sym (cond-false (convex ps (take s ns)) (shapely ps (k + 1) ss (drop s ns)) (Err (fault Shape k)) f) ∙ e))
 
--- a face has as many edges as corners, and all faces no more than there are corner numbers
-face_edges : (face : List ℕ) (f n : ℕ) → length (edges_to face f n) ≡ n
-face_edges face f zero = ap length (edges_none face f)
-face_edges face f (suc n) = ap length (edges_more face f n) ∙ length-append (edges_to face f n) (edge face f n ∷ []) ∙ ap (λ m. m + 1) (face_edges face f n) ∙ add-one n
-
+-- all faces have no more edges than there are corner numbers
 all_few : (k : ℕ) (ss ns : List ℕ) → length (all_edges k ss ns) ≤ length ns
 all_few k [] ns = omega arith
 all_few k (s ∷ ss) ns =

@@ -6,7 +6,7 @@ use Rattle.text.specs.declared.faults.Ground.TheVariants.{Limits, Over}
 use Rattle.text.specs.declared.lexing.Number.{Number}
 use Rattle.text.specs.Faults.{fault}
 use Rattle.text.specs.Lexing.{numbered}
-use Rattle.text.specs.Marks.{marked, Found}
+use Rattle.text.specs.Marks.{marked, Found, over}
 use Rattle.text.proofs.Marks.{finds}
 use Rattle.plane.specs.Limits.{PostAt}
 use Rattle.plane.specs.Separation.{Point}
@@ -14,8 +14,8 @@ use Rattle.polygon.specs.declared.layout.Plan.{Plan}
 use Rattle.polygon.specs.Corners.{corner as read_corner}
 use Rattle.polygon.specs.Faces.{Facing, faced}
 use Rattle.polygon.specs.Headings.{headed}
-use Rattle.polygon.specs.Layouts as layouts
-use Rattle.polygon.specs.Layouts.{both, with_faces, with_corners, totals, over, refuses, ended, at_faces, at_corners, at_totals, at_heading, laid}
+use Rattle.text.specs.Marks as marks
+use Rattle.polygon.specs.Layouts.{both, with_faces, with_corners, totals, refuses, ended, at_faces, at_corners, at_totals, at_heading, laid}
 use Rattle.polygon.specs.Outs.{Filling, filled}
 use Rattle.polygon.specs.Refusals.{Headed, Counted, Cornered, Faulty, bare, headless, corner_count, face_count, edge_count, corner, face, left_over}
 use Rattle.polygon.specs.Spelling.{CornerSpelt}
@@ -92,7 +92,7 @@ module _ (t : List ℕ) (f : Fault) where
       over_blame : (k : ℕ) → faces.result ≡ Ok k → over t faces.at ≡ Err f → Faulty t f
       over_blame k ok' = go (marked t faces.at).found (marked t faces.at).at (finds t faces.at _ _ refl refl)
         where
-          go : (r : Option (ℕ × ℕ)) (next : ℕ) → Found t faces.at r next → layouts.left_over r ≡ Err f → Faulty t f
+          go : (r : Option (ℕ × ℕ)) (next : ℕ) → Found t faces.at r next → marks.left_over r ≡ Err f → Faulty t f
           go None next h e = never e
           go (Some m) next h e =
               let r = rest in

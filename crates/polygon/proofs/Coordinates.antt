@@ -13,7 +13,7 @@ use Rattle.plane.specs.Limits.{PostAt}
 use Rattle.plane.specs.Separation.{Point}
 use Rattle.polygon.specs.Corners.{signed, bounded, bounded_at, coordinate, at_corner, with_y, with_x, corner}
 use Rattle.polygon.specs.Faces.{number}
-use Rattle.polygon.specs.Outs.{next}
+use Rattle.text.specs.Outs.{next}
 use Rattle.polygon.specs.Spelling.{CornerSpelt}
 use Rattle.polygon.specs.Wholes.{limited, limited_at, whole}
 use Rattle.polygon.proofs.Readers.{Reader, next_was}

@@ -15,7 +15,8 @@ use Rattle.text.proofs.Signed.{signed_found}
 use Rattle.polygon.specs.Corners.{signed, bounded, bounded_at, coordinate, at_corner, with_y, with_x, corner}
 use Rattle.polygon.specs.Faces.{number, size, Facing, faced}
 use Rattle.polygon.specs.Meshes.{Face}
-use Rattle.polygon.specs.Outs.{at_ok, next, Filling, filled}
+use Rattle.text.specs.Outs.{at_ok, next}
+use Rattle.polygon.specs.Outs.{Filling, filled}
 use Rattle.polygon.specs.Refusals.{Misspelt, Wrong, misspelt, off_limits, WrongCoordinate, no_coordinate, too_far, WrongCorner, in_x, in_y, in_z, WrongFace, in_size, in_number}
 use Rattle.polygon.specs.Spelling.{Each, FaceSpelt}
 use Rattle.polygon.specs.Wholes.{limited, limited_at, whole}

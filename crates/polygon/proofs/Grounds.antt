@@ -10,7 +10,7 @@ use Rattle.polygon.specs.Understood.{Misshapen, Doubled}
 use Rattle.polygon.proofs.Readers.{never}
 
 abbrev Low : Fault → Type 0
-Low f = f.number ≤ 18
+Low f = number_of f.cause ≤ 18
 
 low_as : {f : Fault} (g : Ground) (p : ℕ) → f ≡ fault g p → number_of g ≤ 18 → Low f
 low_as g p e h = subst Low (sym e) h
@@ -61,12 +61,12 @@ shape_only t k h = go (grounds t (fault Shape k) h)
     go : Low (fault Shape k) ⊎ (((j : ℕ) × (fault Shape k ≡ fault Shape j) × Misshapen t j) ⊎ ((j : ℕ) × (fault Shape k ≡ fault Edge j) × Doubled t j)) → Misshapen t k
     go (inl l) = absurd (omega arith)
     go (inr (inl b)) = subst (Misshapen t) (sym (ap (λ x. x.place) b.1)) b.2
-    go (inr (inr b)) = let z : ◌≡◌ {A = ℕ} 19 20 = ap (λ (x : Fault). x.number) b.1 in absurd (omega arith)
+    go (inr (inr b)) = let z : ◌≡◌ {A = ℕ} 19 20 = ap (λ (x : Fault). number_of x.cause) b.1 in absurd (omega arith)
 
 pub edge_only : (t : List ℕ) (k : ℕ) → Faulty t (fault Edge k) → Doubled t k
 edge_only t k h = go (grounds t (fault Edge k) h)
   where
     go : Low (fault Edge k) ⊎ (((j : ℕ) × (fault Edge k ≡ fault Shape j) × Misshapen t j) ⊎ ((j : ℕ) × (fault Edge k ≡ fault Edge j) × Doubled t j)) → Doubled t k
     go (inl l) = absurd (omega arith)
-    go (inr (inl b)) = let z : ◌≡◌ {A = ℕ} 20 19 = ap (λ (x : Fault). x.number) b.1 in absurd (omega arith)
+    go (inr (inl b)) = let z : ◌≡◌ {A = ℕ} 20 19 = ap (λ (x : Fault). number_of x.cause) b.1 in absurd (omega arith)
     go (inr (inr b)) = subst (Doubled t) (sym (ap (λ x. x.place) b.1)) b.2

@@ -14,8 +14,7 @@ use Rattle.polygon.specs.Doorways.{passage}
 use Rattle.polygon.specs.Edges.{after, edge, edges_to, edge_at}
 use Rattle.polygon.specs.Meshes.{Mesh, edges_from, edges_of, Face, Within, Shaped}
 use Rattle.polygon.specs.Sharing.{Shares, Doors, none, skip, door}
-use Rattle.polygon.proofs.Judging.{face_edges}
-use Rattle.polygon.proofs.Listing.{edges_more}
+use Rattle.polygon.proofs.Listing.{edges_more, face_edges}
 use Rattle.polygon.proofs.Rounds.{ends_apart, after_inside}
 
 -- each edge is one of a face, from one of its places

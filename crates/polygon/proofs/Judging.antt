@@ -1,5 +1,5 @@
 -- The shape of a plan's faces and its edges, as the reader tests them and in words.
-use Rattle.std.proofs.Common.{◌≡◌, ℕ, zero, suc, ◌+◌, ◌*◌, ◌<◌, ◌≤◌, true, false, cond, ◌⊎◌, List, [], ◌∷◌, ◌++◌, map, length, get_or, take, replicate, pos, ◌<ℤ◌, Ok, Err, Result, sym, refl, ap, ◌∙◌, subst, inl, inr, add-zero, add-one, arith}
+use Rattle.std.proofs.Common.{◌≡◌, ℕ, zero, suc, ◌+◌, ◌*◌, ◌<◌, ◌≤◌, true, false, cond, ◌⊎◌, List, [], ◌∷◌, ◌++◌, map, length, get_or, take, replicate, pos, ◌<ℤ◌, Ok, Err, Result, sym, refl, ap, ◌∙◌, subst, inl, inr, add-zero, arith}
 use Rattle.std.specs.List.{AllByRecursion}
 use Rattle.std.proofs.lemmas.List.{take_at, drop_at, length-append}
 use Rattle.std.proofs.lemmas.Bool.{cond-true, cond-false, cases_Bool, both_ways}
@@ -12,10 +12,10 @@ use Rattle.maps.specs.declared.passage.Passage.{Passage}
 use Rattle.polygon.specs.declared.edge.Edge.{Edge}
 use Rattle.polygon.specs.Convexity.{spot, convex, shapely}
 use Rattle.polygon.specs.Counterclockwise.{Convex}
-use Rattle.polygon.specs.Edges.{after, edge, edges_to, all_edges, edge_at}
+use Rattle.polygon.specs.Edges.{after, edges_to, all_edges, edge_at}
 use Rattle.polygon.specs.Meshes.{joined, edges_from, Face}
 use Rattle.polygon.specs.Sharing.{Doors, none, skip, door}
-use Rattle.polygon.proofs.Listing.{edges_none, edges_more}
+use Rattle.polygon.proofs.Listing.{face_edges}
 use Rattle.polygon.proofs.Rounds.{convex_so, so_convex}
 
 -- zeros behind the corners change nothing
@@ -101,10 +101,6 @@ edges_same k [] = refl
 edges_same k (f ∷ fs) =
     (λ i. edges_to (take_at f (joined fs) (length f) refl i) k (length (take_at f (joined fs) (length f) refl i)) ++ all_edges (k + 1) (map length fs) (drop_at f (joined fs) (length f) refl i))
     ∙ ap (λ l. edges_to f k (length f) ++ l) (edges_same (k + 1) fs)
-
-pub face_edges : (face : List ℕ) (f n : ℕ) → length (edges_to face f n) ≡ n
-face_edges face f zero = ap length (edges_none face f)
-face_edges face f (suc n) = ap length (edges_more face f n) ∙ length-append (edges_to face f n) (edge face f n ∷ []) ∙ ap (λ m. m + 1) (face_edges face f n) ∙ add-one n
 
 pub edges_many : (k : ℕ) (fs : List (List ℕ)) → length (edges_from k fs) ≡ length (joined fs)
 edges_many k [] = refl

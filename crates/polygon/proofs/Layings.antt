@@ -10,7 +10,7 @@ use Rattle.text.specs.declared.faults.Ground.TheVariants.{Limits}
 use Rattle.text.specs.Bytes.{White}
 use Rattle.text.specs.Faults.{fault}
 use Rattle.text.specs.Lexing.{numbered}
-use Rattle.text.specs.Marks.{marked, Found}
+use Rattle.text.specs.Marks.{marked, Found, left_over, over}
 use Rattle.text.specs.Numerals.{Plain}
 use Rattle.text.proofs.Marks.{finds}
 use Rattle.text.proofs.Plain.{plain_reads, plain_read}
@@ -20,9 +20,10 @@ use Rattle.polygon.specs.declared.layout.Plan.{Plan}
 use Rattle.polygon.specs.Corners.{corner}
 use Rattle.polygon.specs.Faces.{faced}
 use Rattle.polygon.specs.Headings.{headed}
-use Rattle.polygon.specs.Layouts.{both, with_faces, with_corners, totals, left_over, over, Layout, refuses, ended, at_faces, at_corners, at_totals, at_heading, laid}
+use Rattle.polygon.specs.Layouts.{both, with_faces, with_corners, totals, Layout, refuses, ended, at_faces, at_corners, at_totals, at_heading, laid}
 use Rattle.polygon.specs.Meshes.{Mesh, joined, Face, Within}
-use Rattle.polygon.specs.Outs.{next, filled}
+use Rattle.text.specs.Outs.{next}
+use Rattle.polygon.specs.Outs.{filled}
 use Rattle.polygon.specs.Refusals.{Headed, Counted}
 use Rattle.polygon.specs.Spelling.{Each, CornerSpelt, FaceSpelt, Spells}
 use Rattle.polygon.specs.Wholes.{whole}

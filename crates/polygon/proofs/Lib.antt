@@ -5,7 +5,6 @@ pub mod Steps
 pub mod Turning
 pub mod Linking
 pub mod Listing
-pub mod Clearing
 pub mod Counting
 pub mod Shared
 pub mod Rounds

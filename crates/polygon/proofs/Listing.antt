@@ -1,13 +1,12 @@
 -- Edges and doorways listed one by one.
-use Rattle.std.proofs.Common.{◌≡◌, ℕ, suc, ◌+◌, ◌-◌, ◌<◌, ◌≤◌, ltb, List, [], ◌∷◌, ◌++◌, length, get_or, take, drop, set, Some, Option, sym, refl, ap, ◌∙◌, subst, add-one, arith, length-append}
-use Rattle.std.proofs.lemmas.List.{append_assoc, append-nil, take_more_set, at_drop_more, at_drop_all, length-take-le, length-drop, drop_more}
-use Rattle.std.proofs.lemmas.Bool.{cond-true, lt-ltb}
+use Rattle.std.proofs.Common.{◌≡◌, ℕ, zero, suc, ◌+◌, ◌<◌, ◌≤◌, ltb, List, [], ◌∷◌, ◌++◌, length, get_or, take, drop, set, Some, Option, sym, refl, ap, ◌∙◌, subst, add-one, arith, length-append}
+use Rattle.std.proofs.lemmas.List.{append_assoc, append-nil, at_drop_more, at_drop_all, length-take, length-drop, drop_more}
+use Rattle.std.proofs.lemmas.Bool.{cond-true, cond-false, lt-ltb, le-ltb}
 use Rattle.plane.specs.Separation.{Point}
 use Rattle.polygon.specs.declared.edge.Edge.{Edge}
 use Rattle.maps.specs.declared.passage.Passage.{Passage}
 use Rattle.polygon.specs.Edges.{edge, edges_to, all_edges}
 use Rattle.polygon.specs.Doorways.{shared, added, doorways, Holds}
-use Rattle.polygon.proofs.Turning.{part, onward}
 
 pub edges_none : (face : List ℕ) (f : ℕ) → edges_to face f 0 ≡ []
 unfolding edges_to
@@ -17,43 +16,31 @@ pub edges_more : (face : List ℕ) (f n : ℕ) → edges_to face f (suc n) ≡ e
 unfolding edges_to
 edges_more face f n = refl
 
-pub list_step : (face : List ℕ) (f start i : ℕ) (table front : List Edge) (x : Edge) → start + i < length table → take (start + i) table ≡ front ++ edges_to face f i → x ≡ edge face f i
-    → take (start + (i + 1)) (set table (start + i) x) ≡ front ++ edges_to face f (i + 1)
-list_step face f start i table front x h inv is =
-    let same : start + (i + 1) ≡ start + i + 1 = omega arith in
-    ap (λ n. take n (set table (start + i) x)) same
-    ∙ take_more_set table (start + i) x h
-    ∙ (λ j. inv j ++ is j ∷ [])
-    ∙ append_assoc front (edges_to face f i) (edge face f i ∷ [])
-    ∙ ap (λ l. front ++ l) (sym (edges_more face f i) ∙ ap (edges_to face f) (sym (add-one i)))
+-- a face has as many edges as corners
+pub face_edges : (face : List ℕ) (f n : ℕ) → length (edges_to face f n) ≡ n
+face_edges face f zero = ap length (edges_none face f)
+face_edges face f (suc n) = ap length (edges_more face f n) ∙ length-append (edges_to face f n) (edge face f n ∷ []) ∙ ap (λ m. m + 1) (face_edges face f n) ∙ add-one n
 
-module _ (ns : List ℕ) (start s e : ℕ) (in_ns : start ≤ length ns) (up : start ≤ e) (top : e ≤ length ns) (full : start + s ≤ length ns → e ≡ start + s) (cut : length ns < start + s → e ≡ length ns) where
-  abbrev face : List ℕ
-  face = take (e - start) (drop start ns)
+pub one_edge : (face : List ℕ) (f i : ℕ) (front : List Edge) → (front ++ edges_to face f i) ++ edge face f i ∷ [] ≡ front ++ edges_to face f (i + 1)
+one_edge face f i front = append_assoc front (edges_to face f i) (edge face f i ∷ []) ∙ ap (λ l. front ++ l) (sym (edges_more face f i) ∙ ap (edges_to face f) (sym (add-one i)))
 
-  face_length : start + length face ≡ e
-  face_length = omega (arith, length-take-le (e - start) (drop start ns) (omega (arith, length-drop start ns)))
-
-  pub faces_step : (f : ℕ) (ss : List ℕ) (old new all : List Edge) → f < length ss → s ≡ get_or ss f 0
-      → take start old ++ all_edges f (drop f ss) (drop start ns) ≡ all → take (start + length face) new ≡ take start old ++ edges_to face f (length face)
-      → take e new ++ all_edges (f + 1) (drop (f + 1) ss) (drop e ns) ≡ all
-  faces_step f ss old new all h size inv told =
-      let same : face ≡ take s (drop start ns) = part ns start s e in_ns up full cut in
-      let later : drop s (drop start ns) ≡ drop e ns = onward ns start s e in_ns up full cut in
-      ap (λ n. take n new ++ all_edges (f + 1) (drop (f + 1) ss) (drop e ns)) (sym face_length)
-      ∙ ap (λ l. l ++ all_edges (f + 1) (drop (f + 1) ss) (drop e ns)) told
-      ∙ append_assoc (take start old) (edges_to face f (length face)) (all_edges (f + 1) (drop (f + 1) ss) (drop e ns))
-      ∙ (λ i. take start old ++ (edges_to (same i) f (length (same i)) ++ all_edges (f + 1) (drop (f + 1) ss) (sym later i)))
-      ∙ ap (λ k. take start old ++ (edges_to (take k (drop start ns)) f (length (take k (drop start ns))) ++ all_edges (f + 1) (drop (f + 1) ss) (drop k (drop start ns)))) size
-      ∙ ap (λ l. take start old ++ l) (sym (at_drop_more (λ l. all_edges f l (drop start ns)) ss f 0 h))
+-- one face more, where s corner numbers of the rest are its own
+module _ (f : ℕ) (ss rest face behind : List ℕ) (old new : List Edge) (here : face ≡ take (get_or ss f 0) rest) (later : behind ≡ drop (get_or ss f 0) rest) (told : new ≡ old ++ edges_to face f (length face)) where
+  pub faces_step : (all : List Edge) → f < length ss → old ++ all_edges f (drop f ss) rest ≡ all → new ++ all_edges (f + 1) (drop (f + 1) ss) behind ≡ all
+  faces_step all h inv =
+      ap (λ l. l ++ all_edges (f + 1) (drop (f + 1) ss) behind) told
+      ∙ append_assoc old (edges_to face f (length face)) (all_edges (f + 1) (drop (f + 1) ss) behind)
+      ∙ (λ i. old ++ (edges_to (here i) f (length (here i)) ++ all_edges (f + 1) (drop (f + 1) ss) (later i)))
+      ∙ ap (λ l. old ++ l) (sym (at_drop_more (λ l. all_edges f l rest) ss f 0 h))
       ∙ inv
 
-pub faces_end : (f start : ℕ) (ss ns : List ℕ) (table all : List Edge) → length ss ≤ f → take start table ++ all_edges f (drop f ss) (drop start ns) ≡ all → take start table ≡ all
-faces_end f start ss ns table all h inv =
-    sym (append-nil (take start table)) ∙ ap (λ l. take start table ++ l) (sym (at_drop_all (λ l. all_edges f l (drop start ns)) ss f h)) ∙ inv
+  pub faces_many : length new + length behind ≡ length old + length rest
+  faces_many =
+      let s = get_or ss f 0 in
+      omega (arith, ap length told, length-append old (edges_to face f (length face)), face_edges face f (length face), ap length here, ap length later, length-take s rest, length-drop s rest)
 
-pub faces_count : (start : ℕ) (table all : List Edge) → start ≤ length table → take start table ≡ all → start ≡ length all
-faces_count start table all h e = sym (length-take-le start table h) ∙ ap length e
+pub faces_end : (f : ℕ) (ss rest : List ℕ) (row all : List Edge) → length ss ≤ f → row ++ all_edges f (drop f ss) rest ≡ all → row ≡ all
+faces_end f ss rest row all h inv = sym (append-nil row) ∙ ap (λ l. row ++ l) (sym (at_drop_all (λ l. all_edges f l rest) ss f h)) ∙ inv
 
 module _ (ps : List Point) (es : List Edge) where
   pub doors_none : doorways ps es 0 ≡ []
@@ -82,3 +69,7 @@ module _ (space space0 : List Passage) (count : ℕ) (ds : List Passage) (so : H
         most = omega arith;
         room = so.room;
       })
+
+  pub held_full : (p : Passage) → 2048 ≤ count → Holds space space0 count (added ds (Some p))
+  held_full p h =
+      subst (Holds space space0 count) (sym (cond-false (ltb (length ds) 2048) (ds ++ p ∷ []) ds (le-ltb (length ds) 2048 (omega (arith, so.counts))))) so

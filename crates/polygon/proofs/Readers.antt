@@ -4,7 +4,8 @@ use lib.Seq.{sets}
 use Rattle.std.specs.List.{AllByRecursion}
 use Rattle.text.specs.declared.faults.Fault.{Fault}
 use Rattle.text.specs.Lexing.{Out}
-use Rattle.polygon.specs.Outs.{at_ok, next, filled}
+use Rattle.text.specs.Outs.{at_ok, next}
+use Rattle.polygon.specs.Outs.{filled}
 use Rattle.polygon.specs.Spelling.{Each}
 use Rattle.polygon.proofs.Fillings.{fill_none, fill_ok, fill_err}
 

@@ -1,16 +1,16 @@
 -- A face passes the test of convexity exactly when it is convex.
-use Rattle.std.proofs.Common.{◌≡◌, ℕ, zero, suc, ◌+◌, ◌-◌, ◌/◌, ◌<◌, ◌≤◌, Bool, true, false, not, ◌&&◌, T, ltb, leb, ◌⊎◌, List, [], ◌∷◌, map, length, get_or, take, drop, pos, ◌<ℤ◌, sym, refl, ap, ◌∙◌, subst, inl, inr, arith}
+use Rattle.std.proofs.Common.{◌≡◌, ℕ, zero, suc, ◌+◌, ◌-◌, ◌/◌, ◌<◌, ◌≤◌, Bool, true, false, not, ◌&&◌, T, ltb, leb, ◌⊎◌, List, map, length, get_or, take, drop, pos, ◌<ℤ◌, sym, refl, ap, ◌∙◌, subst, inl, inr, arith}
 use Rattle.std.proofs.lemmas.List.{length-map, length-append, length-take-le, length-drop, get_or_append_left, get_or-append_right, get_or-map, get_or-take, get_or-drop}
 use Rattle.std.proofs.lemmas.Bool.{and_parts, and_from, not_from_false, leb-true, le-leb, cases_lt, cases_eq, cases_Bool, cond-true, cond-false, lt-ltb, le-ltb}
 use Rattle.plane.specs.Lines.{through}
-use Rattle.plane.specs.Separation.{Point, Coefficients, value}
+use Rattle.plane.specs.Separation.{Point, value}
 use Rattle.plane.specs.Tests.{strictly_left, same_point}
 use Rattle.plane.proofs.Integers.{expand, linear}
 use Rattle.plane.proofs.Tests.{same_point_decides}
 use Rattle.polygon.specs.Convexity.{spot, ring, all_left, clear, all_below, turns_left, convex}
 use Rattle.polygon.specs.Counterclockwise.{corner_of, Convex}
 use Rattle.polygon.specs.Edges.{after}
-use Rattle.polygon.proofs.Turning.{below_none, below_suc}
+use Rattle.polygon.proofs.Turning.{left_each, left_from, below_none, below_suc}
 
 below_each : (p : ℕ → Bool) (n : ℕ) → all_below p n ≡ true → (i : ℕ) → i < n → p i ≡ true
 below_each p zero e i h = absurd (omega arith)
@@ -23,18 +23,9 @@ below_each p (suc n) e i h = go (cases_eq i n) (λ t. below_each p n t i)
     go (inl s) more = ap p s ∙ both.1
     go (inr d) more = more both.0 (omega arith)
 
-left_each : (l : Coefficients) (qs : List Point) (z : Point) → all_left l qs ≡ true → (m : ℕ) → m < length qs → strictly_left l (get_or qs m z) ≡ true
-left_each l [] z e m h = absurd (omega arith)
-left_each l (q ∷ qs) z e zero h = (and_parts (strictly_left l q) (all_left l qs) e).0
-left_each l (q ∷ qs) z e (suc m) h = left_each l qs z (and_parts (strictly_left l q) (all_left l qs) e).1 m (omega arith)
-
 below_from : (p : ℕ → Bool) (n : ℕ) → ((i : ℕ) → i < n → p i ≡ true) → all_below p n ≡ true
 below_from p zero h = below_none p
 below_from p (suc n) h = below_suc p n ∙ and_from (all_below p n) (p n) (below_from p n (λ i l. h i (omega arith))) (h n (omega arith))
-
-left_from : (l : Coefficients) (qs : List Point) (z : Point) → ((m : ℕ) → m < length qs → strictly_left l (get_or qs m z) ≡ true) → all_left l qs ≡ true
-left_from l [] z h = refl
-left_from l (q ∷ qs) z h = and_from (strictly_left l q) (all_left l qs) (h 0 (omega arith)) (left_from l qs z (λ m k. h (suc m) (omega arith)))
 
 passes : (b : Bool) → T b → b ≡ true
 passes true t = refl

@@ -1,6 +1,7 @@
 -- Edges that are used once, and the doorways that they share.
-use Rattle.std.proofs.Common.{◌≡◌, ℕ, zero, suc, ◌+◌, ◌-◌, ◌<◌, ◌≤◌, Bool, true, false, not, ◌&&◌, eqb, ltb, ◌⊎◌, List, [], ◌∷◌, ◌++◌, length, Some, None, Ok, Err, Result, sym, refl, ap, ◌∙◌, subst, inl, inr, arith, length-append}
-use Rattle.std.proofs.lemmas.Bool.{cond-true, cond-false, cases_Bool, cases_eq, cases_order, eqb-true, eq-eqb, ne_eqb, ltb-true, lt-ltb, and_from, and_parts, not_from_false, both_ways}
+use Rattle.std.proofs.Common.{◌≡◌, ℕ, zero, suc, ◌+◌, ◌<◌, ◌≤◌, Bool, true, false, cond, not, eqb, ltb, ◌⊎◌, List, [], ◌∷◌, ◌++◌, length, is_none, Some, None, Ok, Err, Option, Result, sym, refl, ap, ◌∙◌, subst, inl, inr, arith, length-append}
+use Rattle.std.specs.Option.{option_map}
+use Rattle.std.proofs.lemmas.Bool.{cond-true, cond-false, cases_Bool, cases_eq, cases_order, eqb-true, eq-eqb, ltb-true, lt-ltb, and_from, and_parts, not_from_false, both_ways, false≢true}
 use Rattle.text.specs.declared.faults.Fault.{Fault}
 use Rattle.text.specs.declared.faults.Ground.TheVariants.{Edge as EdgeTwice}
 use Rattle.text.specs.Faults.{fault}
@@ -8,11 +9,15 @@ use Rattle.plane.specs.Separation.{Point}
 use Rattle.polygon.specs.declared.edge.Edge.{Edge}
 use Rattle.polygon.specs.Edges.{edge_at}
 use Rattle.polygon.specs.Chains.{latest, once}
-use Rattle.polygon.specs.Doorways.{passage, shared, added, doorways}
+use Rattle.polygon.specs.Doorways.{passage, back, shared, added, doorways}
 use Rattle.polygon.specs.Sharing.{Runs, Distinct, Repeats, Shares, Doors, none, skip, door}
 use Rattle.polygon.proofs.Counting.{count, count_none, count_yes, count_no, pigeons, both_count}
-use Rattle.polygon.proofs.Linking.{runs, latest_none, latest_here, latest_on, once_none, once_suc}
+use Rattle.polygon.proofs.Linking.{runs, latest_here, latest_on, latest_hit, once_none, once_suc}
 use Rattle.polygon.proofs.Listing.{doors_none, doors_suc}
+
+none_of : (o : Option ℕ) → is_none o ≡ true → o ≡ None
+none_of None e = refl
+none_of (Some i) e = absurd (false≢true e)
 
 module _ (es : List Edge) where
   runs_is : (u v k : ℕ) → runs es u v k ≡ true → Runs es u v k
@@ -21,47 +26,39 @@ module _ (es : List Edge) where
   is_runs : (u v k : ℕ) → Runs es u v k → runs es u v k ≡ true
   is_runs u v k r = and_from (eqb (edge_at es k).from u) (eqb (edge_at es k).to v) (eq-eqb _ _ r.0) (eq-eqb _ _ r.1)
 
-  latest_zero : (u v k : ℕ) → latest es u v k ≡ 0 → (i : ℕ) → i < k → runs es u v i ≡ true → ⊥
-  latest_zero u v zero z i h r = omega arith
-  latest_zero u v (suc k) z i h r = go (cases_Bool (runs es u v k)) (cases_eq i k) (λ e. latest_zero u v k e i)
+  latest_none_before : (u v k : ℕ) → latest es u v k ≡ None → (i : ℕ) → i < k → runs es u v i ≡ true → ⊥
+  latest_none_before u v zero z i h r = omega arith
+  latest_none_before u v (suc k) z i h r = go (cases_Bool (runs es u v k)) (cases_eq i k) (λ e. latest_none_before u v k e i)
     where
-      go : (runs es u v k ≡ true) ⊎ (runs es u v k ≡ false) → (i ≡ k) ⊎ (i ≡ k → ⊥) → (latest es u v k ≡ 0 → i < k → runs es u v i ≡ true → ⊥) → ⊥
-      go (inl t) s more = omega (arith, latest_here es u v k t)
+      go : (runs es u v k ≡ true) ⊎ (runs es u v k ≡ false) → (i ≡ k) ⊎ (i ≡ k → ⊥) → (latest es u v k ≡ None → i < k → runs es u v i ≡ true → ⊥) → ⊥
+      go (inl t) s more = cc (latest_here es u v k t)
       go (inr f) (inl s) more = both_ways (runs es u v k) f (ap (runs es u v) (sym s) ∙ r)
       go (inr f) (inr d) more = more (sym (latest_on es u v k f) ∙ z) (omega arith) r
 
-  latest_some : (u v k i : ℕ) → latest es u v k ≡ suc i → (i < k) × (runs es u v i ≡ true)
-  latest_some u v zero i e = absurd (omega (arith, latest_none es u v))
-  latest_some u v (suc k) i e = go (cases_Bool (runs es u v k)) (latest_some u v k i)
-    where
-      go : (runs es u v k ≡ true) ⊎ (runs es u v k ≡ false) → (latest es u v k ≡ suc i → (i < k) × (runs es u v i ≡ true)) → (i < suc k) × (runs es u v i ≡ true)
-      go (inl t) more = let s : k ≡ i = omega (arith, latest_here es u v k t) in (omega arith, subst (λ x. runs es u v x ≡ true) s t)
-      go (inr f) more = let m = more (sym (latest_on es u v k f) ∙ e) in (omega (arith, m.0), m.1)
-
-  abbrev same_before : ℕ → ℕ
+  abbrev same_before : ℕ → Option ℕ
   same_before k = latest es (edge_at es k).from (edge_at es k).to k
 
-  once_zero : (n k : ℕ) → once es n k ≡ Ok tt → (j : ℕ) → k ≤ j → j < k + n → same_before j ≡ 0
+  once_zero : (n k : ℕ) → once es n k ≡ Ok tt → (j : ℕ) → k ≤ j → j < k + n → same_before j ≡ None
   once_zero zero k e j a b = absurd (omega arith)
-  once_zero (suc n) k e j a b = go (cases_Bool (eqb (same_before k) 0)) (cases_eq j k) (λ o. once_zero n (k + 1) o j)
+  once_zero (suc n) k e j a b = go (cases_Bool (is_none (same_before k))) (cases_eq j k) (λ o. once_zero n (k + 1) o j)
     where
-      go : (eqb (same_before k) 0 ≡ true) ⊎ (eqb (same_before k) 0 ≡ false) → (j ≡ k) ⊎ (j ≡ k → ⊥) → (once es n (k + 1) ≡ Ok tt → k + 1 ≤ j → j < k + 1 + n → same_before j ≡ 0) → same_before j ≡ 0
-      go (inl t) (inl s) more = ap same_before s ∙ eqb-true (same_before k) 0 t
-      go (inl t) (inr d) more = more (sym (cond-true (eqb (same_before k) 0) (once es n (k + 1)) (Err (fault EdgeTwice (edge_at es k).face)) t) ∙ sym (once_suc es n k) ∙ e) (omega arith) (omega arith)
+      go : (is_none (same_before k) ≡ true) ⊎ (is_none (same_before k) ≡ false) → (j ≡ k) ⊎ (j ≡ k → ⊥) → (once es n (k + 1) ≡ Ok tt → k + 1 ≤ j → j < k + 1 + n → same_before j ≡ None) → same_before j ≡ None
+      go (inl t) (inl s) more = ap same_before s ∙ none_of (same_before k) t
+      go (inl t) (inr d) more = more (sym (cond-true (is_none (same_before k)) (once es n (k + 1)) (Err (fault EdgeTwice (edge_at es k).face)) t) ∙ sym (once_suc es n k) ∙ e) (omega arith) (omega arith)
       go (inr f) s more =
-          let bad = sym (cond-false (eqb (same_before k) 0) (once es n (k + 1)) (Err (fault EdgeTwice (edge_at es k).face)) f) ∙ sym (once_suc es n k) ∙ e in
+          let bad = sym (cond-false (is_none (same_before k)) (once es n (k + 1)) (Err (fault EdgeTwice (edge_at es k).face)) f) ∙ sym (once_suc es n k) ∙ e in
           let z : ◌≡◌ {A = ℕ} 0 1 = cc in
           absurd (omega arith)
 
   pub distinct_is : once es (length es) 0 ≡ Ok tt → Distinct es
-  distinct_is e i j h l r = latest_zero (edge_at es j).from (edge_at es j).to j (once_zero (length es) 0 e j (omega arith) (omega arith)) i h (is_runs _ _ i r)
+  distinct_is e i j h l r = latest_none_before (edge_at es j).from (edge_at es j).to j (once_zero (length es) 0 e j (omega arith) (omega arith)) i h (is_runs _ _ i r)
 
   -- an edge repeats an earlier one, or there is none
-  repeats_some : (j i : ℕ) → same_before j ≡ suc i → Repeats es j
-  repeats_some j i e = let p = latest_some (edge_at es j).from (edge_at es j).to j i e in (i, p.0, runs_is _ _ i p.1)
+  repeats_some : (j i : ℕ) → same_before j ≡ Some i → Repeats es j
+  repeats_some j i e = let p = latest_hit es (edge_at es j).from (edge_at es j).to j i e in (i, p.0, runs_is _ _ i p.1)
 
-  repeats_none : (j : ℕ) → same_before j ≡ 0 → Repeats es j → ⊥
-  repeats_none j e r = latest_zero (edge_at es j).from (edge_at es j).to j e r.0 r.1 (is_runs _ _ r.0 r.2)
+  repeats_none : (j : ℕ) → same_before j ≡ None → Repeats es j → ⊥
+  repeats_none j e r = latest_none_before (edge_at es j).from (edge_at es j).to j e r.0 r.1 (is_runs _ _ r.0 r.2)
 
   -- the first edge of n from edge k on that repeats an earlier one
   pub record First (n k : ℕ) (f : Fault) : Type 0 where
@@ -79,9 +76,9 @@ module _ (es : List Edge) where
       bad : Result (Unit {0}) Fault
       bad = Err (fault EdgeTwice (edge_at es k).face)
 
-      go : (l : ℕ) → same_before k ≡ l → (once es n (k + 1) ≡ Err f → First n (k + 1) f) → First (suc n) k f
-      go zero z more =
-          let h = more (sym (cond-true (eqb (same_before k) 0) (once es n (k + 1)) bad (eq-eqb (same_before k) 0 z)) ∙ sym (once_suc es n k) ∙ e) in
+      go : (l : Option ℕ) → same_before k ≡ l → (once es n (k + 1) ≡ Err f → First n (k + 1) f) → First (suc n) k f
+      go None z more =
+          let h = more (sym (cond-true (is_none (same_before k)) (once es n (k + 1)) bad (ap is_none z)) ∙ sym (once_suc es n k) ∙ e) in
           record { edge = h.edge; from = omega (arith, h.from); below = omega (arith, h.below); is = h.is; repeats = h.repeats; others = others h }
         where
           others : (h : First n (k + 1) f) → (i : ℕ) → k ≤ i → i < h.edge → Repeats es i → ⊥
@@ -90,8 +87,8 @@ module _ (es : List Edge) where
               here : (i ≡ k) ⊎ (i ≡ k → ⊥) → ⊥
               here (inl s) = repeats_none k z (subst (Repeats es) s r)
               here (inr d) = h.others i (omega arith) b r
-      go (suc i) s more =
-          let q = sym (cond-false (eqb (same_before k) 0) (once es n (k + 1)) bad (ne_eqb (same_before k) 0 (λ y. omega arith))) ∙ sym (once_suc es n k) ∙ e in
+      go (Some i) s more =
+          let q = sym (cond-false (is_none (same_before k)) (once es n (k + 1)) bad (ap is_none s)) ∙ sym (once_suc es n k) ∙ e in
           let same : f ≡ fault EdgeTwice (edge_at es k).face = cc in
           record { edge = k; from = omega arith; below = omega arith; is = same; repeats = repeats_some k i s; others = λ j a b r. omega arith }
 
@@ -105,33 +102,41 @@ module _ (es : List Edge) where
         go (inr (inl h)) = absurd (apart i j h b (r.0 ∙ sym s.0, r.1 ∙ sym s.1))
         go (inr (inr h)) = absurd (apart j i h a (s.0 ∙ sym r.0, s.1 ∙ sym r.1))
 
-    abbrev link : ℕ → ℕ
+    abbrev link : ℕ → Option ℕ
     link k = latest es (edge_at es k).to (edge_at es k).from (length es)
 
+    abbrev beyond : ℕ → Option ℕ → Bool
+    beyond k None = false
+    beyond k (Some q) = ltb (edge_at es k).face (edge_at es q).face
+
+    abbrev number : Option ℕ → ℕ
+    number None = 0
+    number (Some q) = q
+
     abbrev mate : ℕ → ℕ
-    mate k = link k - 1
+    mate k = number (link k)
 
     abbrev near : ℕ → Bool
-    near k = ltb 0 (link k) && ltb (edge_at es k).face (edge_at es (mate k)).face
+    near k = beyond k (link k)
 
     near_shares : (k : ℕ) → near k ≡ true → Shares es k (mate k)
-    near_shares k e =
-        let p = and_parts (ltb 0 (link k)) (ltb (edge_at es k).face (edge_at es (mate k)).face) e in
-        let up : 0 < link k = ltb-true 0 (link k) p.0 in
-        let s : link k ≡ suc (mate k) = omega arith in
-        let q = latest_some (edge_at es k).to (edge_at es k).from (length es) (mate k) s in
-        (q.0, runs_is _ _ (mate k) q.1, ltb-true _ _ p.1)
+    near_shares k e = go (link k) refl
+      where
+        go : (l : Option ℕ) → link k ≡ l → Shares es k (mate k)
+        go None z = absurd (false≢true (sym (ap (beyond k) z) ∙ e))
+        go (Some q) z =
+            let at = latest_hit es (edge_at es k).to (edge_at es k).from (length es) q z in
+            subst (Shares es k) (sym (ap number z)) (at.0, runs_is _ _ q at.1, ltb-true _ _ (sym (ap (beyond k) z) ∙ e))
 
     shares_near : (k q : ℕ) → Shares es k q → (near k ≡ true) × (mate k ≡ q)
     shares_near k q s = go (link k) refl
       where
-        go : (l : ℕ) → link k ≡ l → (near k ≡ true) × (mate k ≡ q)
-        go zero z = absurd (latest_zero (edge_at es k).to (edge_at es k).from (length es) z q s.0 (is_runs _ _ q s.1))
-        go (suc m) e =
-            let at = latest_some (edge_at es k).to (edge_at es k).from (length es) m e in
+        go : (l : Option ℕ) → link k ≡ l → (near k ≡ true) × (mate k ≡ q)
+        go None z = absurd (latest_none_before (edge_at es k).to (edge_at es k).from (length es) z q s.0 (is_runs _ _ q s.1))
+        go (Some m) z =
+            let at = latest_hit es (edge_at es k).to (edge_at es k).from (length es) m z in
             let one : m ≡ q = alike _ _ m q at.0 s.0 (runs_is _ _ m at.1) s.1 in
-            let same : mate k ≡ q = omega (arith, e, one) in
-            (and_from (ltb 0 (link k)) _ (lt-ltb 0 (link k) (omega (arith, e))) (lt-ltb _ _ (subst (λ x. (edge_at es k).face < (edge_at es x).face) (sym same) s.2)), same)
+            (ap (beyond k) z ∙ lt-ltb _ _ (subst (λ x. (edge_at es k).face < (edge_at es x).face) (sym one) s.2), ap number z ∙ one)
 
     mate_far : (k : ℕ) → k < length es → near k ≡ true → near (mate k) ≡ false
     mate_far k h e = go (cases_Bool (near (mate k)))
@@ -167,11 +172,16 @@ module _ (es : List Edge) where
         go (inr d) (inr f) more = omega (arith, more (omega arith), count_no near n f)
 
     module _ (ps : List Point) (short : length es ≤ 4096) where
+      shared_by : (k : ℕ) (l : Option ℕ) → link k ≡ l → shared ps es k ≡ cond (beyond k l) (Some (passage ps (edge_at es k) (edge_at es (mate k)).face)) None
+      shared_by k None z = ap (λ l. back ps (edge_at es k) (option_map (edge_at es) l)) z
+      shared_by k (Some q) z =
+          ap (λ l. back ps (edge_at es k) (option_map (edge_at es) l)) z ∙ ap (λ m. cond (beyond k (Some q)) (Some (passage ps (edge_at es k) (edge_at es m).face)) None) (sym (ap number z))
+
       shared_yes : (k : ℕ) → near k ≡ true → shared ps es k ≡ Some (passage ps (edge_at es k) (edge_at es (mate k)).face)
-      shared_yes k e = cond-true (near k) (Some (passage ps (edge_at es k) (edge_at es (mate k)).face)) None e
+      shared_yes k e = shared_by k (link k) refl ∙ cond-true (near k) (Some (passage ps (edge_at es k) (edge_at es (mate k)).face)) None e
 
       shared_no : (k : ℕ) → near k ≡ false → shared ps es k ≡ None
-      shared_no k e = cond-false (near k) (Some (passage ps (edge_at es k) (edge_at es (mate k)).face)) None e
+      shared_no k e = shared_by k (link k) refl ∙ cond-false (near k) (Some (passage ps (edge_at es k) (edge_at es (mate k)).face)) None e
 
       pub record So (k : ℕ) : Type 0 where
         pub doors : Doors ps es k (doorways ps es k)

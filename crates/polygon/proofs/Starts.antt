@@ -8,20 +8,21 @@ use Rattle.text.specs.Faults.{fault}
 use Rattle.text.specs.Bytes.{White, white}
 use Rattle.text.specs.Numerals.{Ends}
 use Rattle.text.proofs.Classes.{white_true, white_from_true}
-use Rattle.polygon.specs.Headings.{spaced, headed}
+use Rattle.text.specs.Headings.{spaced}
+use Rattle.polygon.specs.Headings.{headed}
 use Rattle.polygon.specs.Refusals.{Headed}
 
 module _ (t : List ℕ) (long : 3 ≤ length t) (first : get_or t 0 0 ≡ 79) (second : get_or t 1 0 ≡ 70) (third : get_or t 2 0 ≡ 70) where
-  pub headed_is : headed t ≡ spaced (drop 3 t)
+  pub headed_is : headed t ≡ spaced 3 (drop 3 t)
   headed_is =
-      cond-true _ (spaced (drop 3 t)) (Err (fault Heading 0))
+      cond-true _ (spaced 3 (drop 3 t)) (Err (fault Heading 0))
       (and_from (leb 3 (length t)) _ (le-leb 3 (length t) long) (and_from (eqb (get_or t 0 0) 79) _ (eq-eqb (get_or t 0 0) 79 first) (and_from (eqb (get_or t 1 0) 70) (eqb (get_or t 2 0) 70) (eq-eqb (get_or t 1 0) 70 second) (eq-eqb (get_or t 2 0) 70 third))))
 
-  pub heading_is : (r : Result ℕ Fault) → r ≡ spaced (take (length t - 3) (drop 3 t)) → r ≡ headed t
-  heading_is r e = e ∙ ap spaced (take_rest t 3) ∙ sym headed_is
+  pub heading_is : (r : Result ℕ Fault) → r ≡ spaced 3 (take (length t - 3) (drop 3 t)) → r ≡ headed t
+  heading_is r e = e ∙ ap (spaced 3) (take_rest t 3) ∙ sym headed_is
 
 -- a heading that is read stands there, with white space behind it
-spaced_was : (bs : List ℕ) (p : ℕ) → spaced bs ≡ Ok p → (p ≡ 3) × Ends bs × (0 < length bs)
+spaced_was : (bs : List ℕ) (p : ℕ) → spaced 3 bs ≡ Ok p → (p ≡ 3) × Ends bs × (0 < length bs)
 spaced_was [] p e = let z : ◌≡◌ {A = ℕ} 0 1 = cc in absurd (omega arith)
 spaced_was (b ∷ bs) p e = go (white b) refl (sym (cond-false _ _ _ (ne_eqb (length (b ∷ bs)) 0 (omega arith))) ∙ e)
   where
@@ -35,7 +36,7 @@ headed_was (a ∷ []) p e = let z : ◌≡◌ {A = ℕ} 0 1 = cc in absurd (omeg
 headed_was (a ∷ (b ∷ [])) p e = let z : ◌≡◌ {A = ℕ} 0 1 = cc in absurd (omega arith)
 headed_was (a ∷ (b ∷ (c ∷ bs))) p e = go (leb 3 (length (a ∷ (b ∷ (c ∷ bs)))) && (eqb a 79 && (eqb b 70 && eqb c 70))) refl e
   where
-    go : (h : Bool) → (leb 3 (length (a ∷ (b ∷ (c ∷ bs)))) && (eqb a 79 && (eqb b 70 && eqb c 70))) ≡ h → cond h (spaced bs) (Err (fault Heading 0)) ≡ Ok p
+    go : (h : Bool) → (leb 3 (length (a ∷ (b ∷ (c ∷ bs)))) && (eqb a 79 && (eqb b 70 && eqb c 70))) ≡ h → cond h (spaced 3 bs) (Err (fault Heading 0)) ≡ Ok p
         → (p ≡ 3) × Headed (a ∷ (b ∷ (c ∷ bs)))
     go true h q =
         let all = and_parts (eqb a 79) (eqb b 70 && eqb c 70) (and_parts (leb 3 (length (a ∷ (b ∷ (c ∷ bs))))) (eqb a 79 && (eqb b 70 && eqb c 70)) h).1 in
@@ -58,7 +59,7 @@ Unheaded t f = ((t ≡ 79 ∷ (70 ∷ (70 ∷ []))) × (f ≡ fault Early (lengt
 unlike : (t : List ℕ) (f : Fault) → ((l : List ℕ) → t ≡ 79 ∷ (70 ∷ (70 ∷ l)) → ⊥) → f ≡ fault Heading 0 → Unheaded t f
 unlike t f other e = inr ((λ h. other (drop 3 t) h.0), other [], e)
 
-behind_it : (a b c : ℕ) (bs : List ℕ) (f : Fault) → a ≡ 79 → b ≡ 70 → c ≡ 70 → spaced bs ≡ Err f → Unheaded (a ∷ (b ∷ (c ∷ bs))) f
+behind_it : (a b c : ℕ) (bs : List ℕ) (f : Fault) → a ≡ 79 → b ≡ 70 → c ≡ 70 → spaced 3 bs ≡ Err f → Unheaded (a ∷ (b ∷ (c ∷ bs))) f
 behind_it a b c [] f p q r e = inl ((λ i. p i ∷ (q i ∷ (r i ∷ []))), let same : f ≡ fault Early 3 = cc in same)
 behind_it a b c (d ∷ bs) f p q r e = go (white d) refl (sym (cond-false _ _ _ (ne_eqb (length (d ∷ bs)) 0 (omega arith))) ∙ e)
   where
@@ -75,7 +76,7 @@ headed_fault (a ∷ []) f e = unlike (a ∷ []) f (λ l q. let z : ◌≡◌ {A 
 headed_fault (a ∷ (b ∷ [])) f e = unlike (a ∷ (b ∷ [])) f (λ l q. let z : ◌≡◌ {A = ℕ} 0 1 = cc in omega arith) (let same : f ≡ fault Heading 0 = cc in same)
 headed_fault (a ∷ (b ∷ (c ∷ bs))) f e = go (leb 3 (length (a ∷ (b ∷ (c ∷ bs)))) && (eqb a 79 && (eqb b 70 && eqb c 70))) refl e
   where
-    go : (h : Bool) → (leb 3 (length (a ∷ (b ∷ (c ∷ bs)))) && (eqb a 79 && (eqb b 70 && eqb c 70))) ≡ h → cond h (spaced bs) (Err (fault Heading 0)) ≡ Err f → Unheaded (a ∷ (b ∷ (c ∷ bs))) f
+    go : (h : Bool) → (leb 3 (length (a ∷ (b ∷ (c ∷ bs)))) && (eqb a 79 && (eqb b 70 && eqb c 70))) ≡ h → cond h (spaced 3 bs) (Err (fault Heading 0)) ≡ Err f → Unheaded (a ∷ (b ∷ (c ∷ bs))) f
     go true h q =
         let all = and_parts (eqb a 79) (eqb b 70 && eqb c 70) (and_parts (leb 3 (length (a ∷ (b ∷ (c ∷ bs))))) (eqb a 79 && (eqb b 70 && eqb c 70)) h).1 in
         let both = and_parts (eqb b 70) (eqb c 70) all.1 in

@@ -14,7 +14,7 @@ use Rattle.text.specs.Lexing.{Out, numbered}
 use Rattle.plane.specs.declared.corner.Corner.{Corner}
 use Rattle.plane.specs.Separation.{Point}
 use Rattle.plane.specs.Shapes.{place}
-use Rattle.polygon.specs.Outs.{next}
+use Rattle.text.specs.Outs.{next}
 
 abbrev pub point : Corner → Point
 point c = place c.at

@@ -1,11 +1,13 @@
 -- The doorways of a plan: the edges that two faces share.
+--   mate es e        the latest edge of es that runs back between the corners of the edge e
 --   shared ps es k   edge k of es as a doorway, if an edge of a later face runs back between the same corners: from the face of edge k to that
 --                    face; its first corner is the right post, its second the left one
 --   added ds o       the doorways ds with one more behind them, where there is one; there are at most 2,048
 --   doorways ps es n the doorways that the edges below n give, in the order of the edges
 --   Holds space space0 count ds
 --                    the space has the doorways ds, count of them, in front, and behind them what space0 has there
-use Rattle.std.specs.Prelude.{◌≡◌, ℕ, zero, suc, ◌-◌, ◌≤◌, cond, ◌&&◌, List, [], ◌∷◌, ◌++◌, length, drop, Some, None, Option, nat_lt}
+use Rattle.std.specs.Prelude.{◌≡◌, ℕ, zero, suc, ◌≤◌, cond, List, [], ◌∷◌, ◌++◌, length, drop, Some, None, Option, nat_lt}
+use Rattle.std.specs.Option.{option_map}
 use Rattle.plane.specs.Separation.{Point}
 use Rattle.polygon.specs.declared.edge.Edge.{Edge}
 use Rattle.maps.specs.declared.passage.Passage.{Passage}
@@ -24,11 +26,15 @@ passage ps e far =
       right_y = (spot ps e.from).1;
     }
 
-abbrev pub back : List Point → List Edge → Edge → ℕ → Option Passage
-back ps es e link = cond (nat_lt 0 link && nat_lt e.face (edge_at es (link - 1)).face) (Some (passage ps e (edge_at es (link - 1)).face)) None
+abbrev pub mate : List Edge → Edge → Option Edge
+mate es e = option_map (edge_at es) (latest es e.to e.from (length es))
+
+abbrev pub back : List Point → Edge → Option Edge → Option Passage
+back ps e None = None
+back ps e (Some m) = cond (nat_lt e.face m.face) (Some (passage ps e m.face)) None
 
 abbrev pub shared : List Point → List Edge → ℕ → Option Passage
-shared ps es k = back ps es (edge_at es k) (latest es (edge_at es k).to (edge_at es k).from (length es))
+shared ps es k = back ps (edge_at es k) (mate es (edge_at es k))
 
 abbrev pub added : List Passage → Option Passage → List Passage
 added ds None = ds

@@ -1,20 +1,20 @@
 -- The layout of a plan's text.
 --   totals t at   the counts of corners, 3 to 1,024, and of faces, 1 to 256; a count of edges follows, and may be any number
---   over t at     only white space may be left of the text t from the place at
 --   Plan          the counts of corners, faces and corner numbers
 --   Layout        an answer and three spaces: the corners' points, the faces' corner counts, their corner numbers
 --   laid t ps ss ns
 --                 the plan that the text t gives, written into the spaces
-use Rattle.std.specs.Prelude.{ℕ, false, cond, List, length, Some, None, Ok, Err, Option, Result, nat_lt}
+use Rattle.std.specs.Prelude.{ℕ, false, cond, List, length, Ok, Err, Result, nat_lt}
 use Rattle.text.specs.declared.faults.Fault.{Fault}
-use Rattle.text.specs.declared.faults.Ground.TheVariants.{Limits, Over}
+use Rattle.text.specs.declared.faults.Ground.TheVariants.{Limits}
 use Rattle.text.specs.declared.lexing.Number.{Number}
 use Rattle.text.specs.Faults.{fault}
 use Rattle.text.specs.Lexing.{Out, numbered}
-use Rattle.text.specs.Marks.{marked}
+use Rattle.text.specs.Marks.{over}
 use Rattle.plane.specs.Separation.{Point}
 use Rattle.polygon.specs.declared.layout.Plan.{Plan}
-use Rattle.polygon.specs.Outs.{next, Filling, filled}
+use Rattle.text.specs.Outs.{next}
+use Rattle.polygon.specs.Outs.{Filling, filled}
 use Rattle.polygon.specs.Wholes.{whole}
 use Rattle.polygon.specs.Corners.{corner}
 use Rattle.polygon.specs.Faces.{Facing, faced}
@@ -31,13 +31,6 @@ with_corners t c p = next (whole t Limits 1 257 p) (with_faces t c)
 
 abbrev pub totals : List ℕ → ℕ → Out (ℕ × ℕ)
 totals t at = next (whole t Limits 3 1025 at) (with_corners t)
-
-abbrev pub left_over : Option (ℕ × ℕ) → Result (Unit {0}) Fault
-left_over None = Ok tt
-left_over (Some m) = Err (fault Over m.1)
-
-abbrev pub over : List ℕ → ℕ → Result (Unit {0}) Fault
-over t at = left_over (marked t at).found
 
 pub record Layout : Type 0 where
   pub result : Result Plan Fault

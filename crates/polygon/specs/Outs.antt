@@ -1,18 +1,10 @@
--- Readings joined one behind the other, and repeated.
---   next o f     what f reads behind the outcome o, from o's value and place; a fault of o stays
+-- Readings repeated.
 --   Filling A    an answer, the place where the lexer then stands, and the space
 --   filled one n k at sp
 --                n elements, each read by one, from the place at, written into the space sp from its place k on
 use Rattle.std.specs.Prelude.{ℕ, zero, suc, ◌+◌, List, Ok, Err, Result, slice_set}
 use Rattle.text.specs.declared.faults.Fault.{Fault}
 use Rattle.text.specs.Lexing.{Out}
-
-abbrev pub at_ok : {A B : Type 0} → Result A Fault → ℕ → (A → ℕ → Out B) → Out B
-at_ok (Ok a) p f = f a p
-at_ok (Err e) p f = record { result = Err e; at = p }
-
-abbrev pub next : {A B : Type 0} → Out A → (A → ℕ → Out B) → Out B
-next o f = at_ok o.result o.at f
 
 pub record Filling (A : Type 0) : Type 0 where
   pub result : Result (Unit {0}) Fault

@@ -7,7 +7,7 @@ use Rattle.text.specs.declared.faults.Ground.{Ground}
 use Rattle.text.specs.declared.lexing.Number.{Number}
 use Rattle.text.specs.Faults.{fault}
 use Rattle.text.specs.Lexing.{Out, numbered}
-use Rattle.polygon.specs.Outs.{next}
+use Rattle.text.specs.Outs.{next}
 
 abbrev pub limited : Ground → ℕ → ℕ → Number → Result ℕ Fault
 limited g least below n = cond (nat_lt n.magnitude least || nat_le below n.magnitude) (Err (fault g n.start)) (Ok n.magnitude)

@@ -1,19 +1,24 @@
 // Edges are found by their corners: those that leave corners with the same rest by 1,024 are chained, the latest first.
-ghost use Rattle.std.specs.Prelude.{◌≡◌, ℕ, ◌+◌, ◌<◌, ◌≤◌, ◌&&◌, List, length, OnOk, ◌==◌};
+ghost use Rattle.std.specs.Prelude.{◌≡◌, ◌+◌, ◌<◌, ◌≤◌, ◌&&◌, length, IfOk, IfErr, ◌==◌};
+ghost use Rattle.std.specs.Option.{option_map};
+ghost use Rattle.polygon.specs.Edges.{edge_at};
 ghost use Rattle.polygon.specs.Chains.{latest, once, Linked};
-ghost use Rattle.polygon.specs.declared.edge.Edge.{Edge};
 
 use crate::edge::Edge;
 use text::{Fault, Ground};
 
 const HEADS: usize = 1024;
 
-// The chains of the first `known` edges; a link is one more than an edge's number, and 0 ends a chain.
+// The chains of the first `known` edges: the latest edge for each rest, and for each edge the one before it.
 #[derive(Drop)]
-pub struct Chains {
-    heads: [u16; 1024],
-    nexts: [u16; 4096],
+pub struct Chains<'a> {
+    pub(crate) edges: &'a [Edge],
     known: usize,
+    heads: [Option<u16>; 1024],
+    nexts: [Option<u16>; 4096],
+    ghost few: { length edges.now ≤ 4096 },
+    ghost within: { known ≤ length edges.now },
+    ghost linked: { Linked edges.now known heads nexts },
 }
 
 // Whether an edge runs from u to v.
@@ -23,69 +28,55 @@ fn runs(edge: Edge, u: u16, v: u16) -> bool
     edge.from == u && edge.to == v
 }
 
-impl Chains {
-    pub(crate) fn new() -> Chains
-        ensures empty { result.known ≡ 0 }
-        ensures linked { (es : List Edge) → Linked es 0 result.heads result.nexts }
+impl<'a> Chains<'a> {
+    // Chains all edges. The first that repeats an earlier one is refused.
+    pub(crate) fn of(edges: &'a [Edge]) -> Result<Chains<'a>, Fault>
+        requires { length edges.now ≤ 4096 }
+        ensures once { IfOk result (λ c. once edges.now (length edges.now) 0 ≡ Ok tt) }
+        ensures twice { IfErr result (λ e. once edges.now (length edges.now) 0 ≡ Err e) }
+        ensures all { IfOk result (λ c. (c.edges.now ≡ edges.now) × (c.known ≡ length edges.now)) }
     {
-        Chains {
-            heads: [0; 1024],
-            nexts: [0; 4096],
+        let mut chains = Chains {
+            edges,
             known: 0,
+            heads: [None; 1024],
+            nexts: [None; 4096],
+        };
+        for edge in edges.iter() {
+            if chains.find(edge.from, edge.to).is_some() {
+                return Err(Fault::new(Ground::Edge, usize::from(edge.face)));
+            }
+            chains.push();
         }
+        Ok(chains)
     }
 
-    // One more than the number of the latest edge from u to v; 0 where there is none.
-    pub(crate) fn find(&self, edges: &[Edge], u: u16, v: u16) -> usize
-        requires linked { Linked edges.now self.now.known self.now.heads self.now.nexts }
-        requires known { self.now.known ≤ length edges.now }
-        requires few { length edges.now ≤ 4096 }
-        ensures { result ≡ latest edges.now u v self.now.known }
+    // The latest edge from u to v.
+    pub(crate) fn find(&self, u: u16, v: u16) -> Option<Edge>
+        ensures { result ≡ option_map (edge_at self.now.edges.now) (latest self.now.edges.now u v self.now.known) }
     {
-        let mut link = self.heads[usize::from(u) % HEADS] as usize;
-        while link > 0 {
-            let e = link - 1;
-            let edge = edges[e];
+        let mut link = self.heads[usize::from(u) % HEADS];
+        while let Some(number) = link {
+            let e = usize::from(number);
+            let edge = self.edges[e];
             if runs(edge, u, v) {
-                return link;
+                return Some(edge);
             }
-            link = self.nexts[e] as usize;
+            link = self.nexts[e];
         }
-        0
+        None
     }
 
     // Chains one edge more.
-    fn push(&mut self, edges: &[Edge])
-        requires linked { Linked edges.now self.old.known self.old.heads self.old.nexts }
-        requires known { self.old.known < length edges.now }
-        requires few { length edges.now ≤ 4096 }
+    fn push(&mut self)
+        requires { self.old.known < length self.old.edges.now }
+        ensures edges { self.new.edges ≡ self.old.edges }
         ensures known { self.new.known ≡ self.old.known + 1 }
-        ensures linked { Linked edges.now (self.old.known + 1) self.new.heads self.new.nexts }
     {
         let e = self.known;
-        let b = edges[e].from as usize % HEADS;
-        let before = self.heads[b];
-        self.nexts[e] = before;
-        self.heads[b] = (e + 1) as u16;
+        let b = usize::from(self.edges[e].from) % HEADS;
+        self.nexts[e] = self.heads[b];
+        self.heads[b] = Some(e as u16);
         self.known = e + 1;
-    }
-
-    // Chains all edges. The first that repeats an earlier one is refused.
-    pub(crate) fn link(&mut self, edges: &[Edge]) -> Result<(), Fault>
-        requires linked { Linked edges.now self.old.known self.old.heads self.old.nexts }
-        requires empty { self.old.known ≡ 0 }
-        requires few { length edges.now ≤ 4096 }
-        ensures answer { result ≡ once edges.now (length edges.now) 0 }
-        ensures known { OnOk result (self.new.known ≡ length edges.now) }
-        ensures linked { OnOk result (Linked edges.now (length edges.now) self.new.heads self.new.nexts) }
-    {
-        for e in 0..edges.len() {
-            let edge = edges[e];
-            if self.find(edges, edge.from, edge.to) > 0 {
-                return Err(Fault::new(Ground::Edge, edge.face as usize));
-            }
-            self.push(edges);
-        }
-        Ok(())
     }
 }

@@ -1,10 +1,12 @@
 // Whether the faces of a plan are convex and counterclockwise.
-ghost use Rattle.std.specs.Prelude.{◌≡◌, ◌+◌, ◌*◌, ◌/◌, ◌<◌, ◌≤◌, ◌++◌, map, length, take, pos};
-ghost use Rattle.plane.specs.Shapes.{place};
+ghost use Rattle.std.specs.Prelude.{◌≡◌, ◌+◌, ◌<◌, ◌≤◌, ◌++◌, map, length, take, slice_index, EachIndex, IsTrue, ◌↔◌};
+ghost use Rattle.plane.specs.Tests.{strictly_left};
+ghost use Rattle.plane.specs.Shapes.{coefficients};
 ghost use Rattle.polygon.specs.Corners.{point, points};
-ghost use Rattle.polygon.specs.Convexity.{spot, sees, clear, turns_left, convex, shapely};
+ghost use Rattle.polygon.specs.Convexity.{spot, sees, around, convex, shapely};
 
-use plane::check::first_wrong;
+use crate::faces::first_face;
+use plane::check::Sided;
 use plane::corner::Corner;
 use plane::line::Line;
 use plane::post::Post;
@@ -14,58 +16,49 @@ use text::{Fault, Ground};
 const MOST: usize = 16;
 
 // The corner with this number.
-pub(crate) fn corner_at(corners: &[Corner], number: usize) -> Corner
+pub(crate) fn corner_at(corners: &[Corner], number: u16) -> Corner
     ensures { point result ≡ spot (points corners.now) number }
 {
-    if number < corners.len() {
-        corners[number]
-    } else {
-        Corner {
-            at: Post { x: 0, y: 0 },
-        }
-    }
+    let origin = Corner {
+        at: Post { x: 0, y: 0 },
+    };
+    corners.get(usize::from(number)).copied().unwrap_or(origin)
 }
 
-// Writes the corners of a face into the ring from the place `start` on.
-fn lay(corners: &[Corner], face: &[u16], start: usize, into: &mut [Corner])
-    requires { start + length face.now ≤ length into.old }
-    ensures { take (start + length face.now) (points into.new) ≡ take start (points into.old) ++ map (spot (points corners.now)) face.now }
+// Whether the corners with these numbers lie strictly left of a line.
+fn all_left(line: &Line, corners: &[Corner], numbers: &[u16]) -> bool
+    ensures { IsTrue result ↔ EachIndex numbers.now (λ k. IsTrue (strictly_left (coefficients line.now) (spot (points corners.now) (slice_index numbers.now k)))) }
 {
-    for k in 0..face.len() {
-        into[start + k] = corner_at(corners, face[k] as usize);
-    }
+    numbers
+        .iter()
+        .all(|number| corner_at(corners, *number).sits_well(line))
 }
 
-// Whether p and q are different points, and all corners of `others` lie strictly left of the line from p to q.
-fn sees_all(p: Corner, q: Corner, others: &[Corner]) -> bool
-    ensures { result ≡ sees (point p) (point q) (points others.now) }
+// Whether the first two corners of a round are different points, and all others lie strictly left of the line from the first to the second.
+fn is_clear(corners: &[Corner], round: &[u16]) -> bool
+    ensures { result ≡ around (map (spot (points corners.now)) round.now) }
 {
+    let [first, second, others @ ..] = round else {
+        return false;
+    };
+    let p = corner_at(corners, *first);
+    let q = corner_at(corners, *second);
     match Line::through(p.at, q.at) {
-        Some(line) => first_wrong(&line, others).is_none(),
+        Some(line) => all_left(&line, corners, others),
         None => false,
     }
 }
 
-// Whether the corners at all other places lie strictly left of the edge from place i, in a ring of n corners twice round.
-fn is_clear(ring: &[Corner], n: usize, i: usize) -> bool
-    requires { (2 ≤ n) × (i < n) × (2 * n ≤ length ring.now) }
-    ensures { result ≡ clear n (points ring.now) i }
+// The corner numbers of a face, twice round.
+fn twice_round(face: &[u16]) -> [u16; 32]
+    requires { length face.now ≤ 16 }
+    ensures { take (length face.now + length face.now) result ≡ face.now ++ face.now }
 {
-    sees_all(ring[i], ring[i + 1], &ring[i + 2..i + n])
-}
-
-// The same for all edges of a ring.
-fn all_clear(ring: &[Corner]) -> bool
-    requires { 4 ≤ length ring.now }
-    ensures { result ≡ turns_left (points ring.now) }
-{
-    let n = ring.len() / 2;
-    for i in 0..n {
-        if !is_clear(ring, n, i) {
-            return false;
-        }
-    }
-    true
+    let n = face.len();
+    let mut ring = [0; 32];
+    ring[..n].copy_from_slice(face);
+    ring[n..n + n].copy_from_slice(face);
+    ring
 }
 
 // Whether the face with these corner numbers is convex and counterclockwise.
@@ -76,40 +69,26 @@ fn is_convex(corners: &[Corner], face: &[u16]) -> bool
     if n < 3 || n > MOST {
         return false;
     }
-    let mut ring = [Corner {
-        at: Post { x: 0, y: 0 },
-    }; 32];
-    lay(corners, face, 0, &mut ring);
-    lay(corners, face, n, &mut ring);
-    all_clear(&ring[0..n + n])
-}
-
-// The end of a face that starts at `start` and has `size` corner numbers of `total`.
-pub(crate) fn end_of(start: usize, size: u8, total: usize) -> usize
-    requires { start ≤ total }
-    ensures within { (start ≤ result) × (result ≤ total) }
-    ensures whole { start + size ≤ total → result ≡ start + size }
-    ensures cut { total < start + size → result ≡ total }
-{
-    let size = usize::from(size);
-    if size <= total - start {
-        start + size
-    } else {
-        total
+    let ring = twice_round(face);
+    for i in 0..n {
+        if !is_clear(corners, &ring[i..i + n]) {
+            return false;
+        }
     }
+    true
 }
 
 // Refuses the first face that is not convex and counterclockwise.
 pub(crate) fn check_faces(corners: &[Corner], sizes: &[u8], numbers: &[u16]) -> Result<(), Fault>
     ensures { result ≡ shapely (points corners.now) 0 sizes.now numbers.now }
 {
-    let mut start = 0;
-    for f in 0..sizes.len() {
-        let end = end_of(start, sizes[f], numbers.len());
-        if !is_convex(corners, &numbers[start..end]) {
+    let mut rest = numbers;
+    for (f, size) in sizes.iter().enumerate() {
+        let (face, behind) = first_face(rest, *size);
+        if !is_convex(corners, face) {
             return Err(Fault::new(Ground::Shape, f));
         }
-        start = end;
+        rest = behind;
     }
     Ok(())
 }

@@ -1,49 +1,38 @@
 // The corners of a plan, read one by one into the caller's space.
-ghost use Rattle.std.specs.Prelude.{◌≡◌, ◌^◌, ◌<◌, ◌≤◌, length, IfOk, unsigned_abs};
+ghost use Rattle.std.specs.Prelude.{◌≡◌, ◌≤◌, length, IfOk, unsigned_abs};
 ghost use Rattle.text.specs.Lexing.{text_of, at_of};
 ghost use Rattle.plane.specs.Limits.{PostAt};
 ghost use Rattle.polygon.specs.Outs.{filled};
-ghost use Rattle.polygon.specs.Corners.{points, signed, bounded, coordinate, corner};
+ghost use Rattle.polygon.specs.Corners.{points, bounded, coordinate, corner};
 
+use crate::wholes::value_within;
 use plane::corner::Corner;
 use plane::post::Post;
 use text::{Fault, Ground, Lexer, Number};
 
 // A coordinate lies within ± this.
-const FARTHEST: u32 = 10_000;
-
-// The number with its sign.
-fn with_sign(n: Number) -> i32
-    requires { n.magnitude < 10 ^ 6 }
-    ensures answer { result ≡ signed n }
-    ensures bound { unsigned_abs result ≡ n.magnitude }
-{
-    let value = n.magnitude as i32;
-    if n.negative { -value } else { value }
-}
+const FARTHEST: usize = 10_000;
 
 // The number with its sign, which must lie within ± `most`.
-fn value_within(n: Number, most: u32) -> Result<i32, Fault>
-    requires { n.magnitude < 10 ^ 6 }
+fn coordinate_within(n: Number, most: usize) -> Result<i32, Fault>
+    requires { most ≤ 10000 }
     ensures answer { result ≡ bounded most n }
     ensures bound { IfOk result (λ v. unsigned_abs v ≤ most) }
 {
-    if n.magnitude > most {
-        Err(Fault::new(Ground::Coordinate, n.start))
-    } else {
-        Ok(with_sign(n))
-    }
+    let value = value_within(n, Ground::Coordinate, 0, most + 1)? as i32;
+    Ok(if n.negative { -value } else { value })
 }
 
 // The next coordinate.
-fn next_coordinate(lexer: &mut Lexer, most: u32) -> Result<i32, Fault>
+fn next_coordinate(lexer: &mut Lexer, most: usize) -> Result<i32, Fault>
+    requires { most ≤ 10000 }
     ensures answer { result ≡ (coordinate (text_of lexer.old) most (at_of lexer.old)).result }
     ensures stands { at_of lexer.new ≡ (coordinate (text_of lexer.old) most (at_of lexer.old)).at }
     ensures same { text_of lexer.new ≡ text_of lexer.old }
     ensures bound { IfOk result (λ v. unsigned_abs v ≤ most) }
 {
     let n = lexer.number(true)?;
-    value_within(n, most)
+    coordinate_within(n, most)
 }
 
 // The next corner's x and y; its z must be 0.

@@ -1,5 +1,5 @@
 // The faces of a plan: corner counts and corner numbers, read one by one into space.
-ghost use Rattle.std.specs.Prelude.{◌≡◌, ◌+◌, ◌*◌, ◌≤◌, length, IfOk};
+ghost use Rattle.std.specs.Prelude.{◌≡◌, ◌+◌, ◌*◌, ◌≤◌, length, take, drop, IfOk};
 ghost use Rattle.text.specs.Lexing.{text_of, at_of};
 ghost use Rattle.polygon.specs.Outs.{filled};
 ghost use Rattle.polygon.specs.Faces.{number, faced};
@@ -57,4 +57,12 @@ pub(crate) fn read_faces(
         used += size;
     }
     Ok(used)
+}
+
+// The first face, which has `size` corner numbers or as many as there are, and the numbers behind it.
+pub(crate) fn first_face(numbers: &[u16], size: u8) -> (&[u16], &[u16])
+    ensures face { result.0.now ≡ take size numbers.now }
+    ensures behind { result.1.now ≡ drop size numbers.now }
+{
+    numbers.split_at(usize::from(size).min(numbers.len()))
 }

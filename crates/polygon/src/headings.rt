@@ -1,28 +1,15 @@
 // The heading of a plan.
 ghost use Rattle.std.specs.Prelude.{◌≡◌};
-ghost use Rattle.polygon.specs.Headings.{spaced, headed};
+ghost use Rattle.polygon.specs.Headings.{headed};
 
-use text::{Fault, Ground, is_white};
+use text::{Fault, Ground, space_behind};
 
 // The place behind the heading.
 pub(crate) fn heading(text: &[u8]) -> Result<usize, Fault>
     ensures { result ≡ headed text.now }
 {
     match text {
-        [b'O', b'F', b'F', rest @ ..] => space_behind(rest),
+        [b'O', b'F', b'F', rest @ ..] => space_behind(3, rest),
         _ => Err(Fault::new(Ground::Heading, 0)),
-    }
-}
-
-// White space must stand behind the heading.
-fn space_behind(rest: &[u8]) -> Result<usize, Fault>
-    ensures { result ≡ spaced rest.now }
-{
-    if rest.len() == 0 {
-        Err(Fault::new(Ground::Early, 3))
-    } else if is_white(rest[0]) {
-        Ok(3)
-    } else {
-        Err(Fault::new(Ground::Heading, 0))
     }
 }

@@ -2,17 +2,14 @@
 ghost use Rattle.std.specs.Prelude.{◌≡◌, ◌<◌, ◌≤◌, length, IfOk};
 ghost use Rattle.text.specs.Lexing.{text_of, at_of};
 ghost use Rattle.polygon.specs.Corners.{points};
-ghost use Rattle.polygon.specs.Layouts.{totals, over, laid};
+ghost use Rattle.polygon.specs.Layouts.{totals, laid};
 
 use crate::corners::read_corners;
 use crate::faces::read_faces;
 use crate::headings::heading;
 use crate::wholes::whole_within;
 use plane::corner::Corner;
-use text::{Fault, Ground, Lexer};
-
-// At most this many bytes of text.
-const MOST_TEXT: usize = 60_000;
+use text::{Fault, Ground, Lexer, MOST_TEXT};
 
 // How many corners, faces and edges of faces a plan has.
 #[derive(Clone, Copy, PartialEq, Debug)]
@@ -33,16 +30,6 @@ fn read_totals(lexer: &mut Lexer) -> Result<(usize, usize), Fault>
     let faces = whole_within(lexer, Ground::Limits, 1, 257)?;
     let _edges = lexer.number(false)?;
     Ok((corners, faces))
-}
-
-// Only white space may be left.
-fn finish(lexer: &mut Lexer) -> Result<(), Fault>
-    ensures { result ≡ over (text_of lexer.old) (at_of lexer.old) }
-{
-    match lexer.mark() {
-        None => Ok(()),
-        Some((_, place)) => Err(Fault::new(Ground::Over, place)),
-    }
 }
 
 // The counts of the plan in `text`; its corners, the corner counts of its faces and their corner numbers go into the spaces.
@@ -66,13 +53,13 @@ pub(crate) fn read_layout(
     }
     let at = heading(text)?;
     let mut lexer = Lexer::new(text, at);
-    let total = read_totals(&mut lexer)?;
-    read_corners(&mut lexer, total.0, corners)?;
-    let edges = read_faces(&mut lexer, total.0, total.1, sizes, numbers)?;
-    finish(&mut lexer)?;
+    let (corner_count, face_count) = read_totals(&mut lexer)?;
+    read_corners(&mut lexer, corner_count, corners)?;
+    let edges = read_faces(&mut lexer, corner_count, face_count, sizes, numbers)?;
+    lexer.expect_end()?;
     Ok(Plan {
-        corners: total.0,
-        faces: total.1,
+        corners: corner_count,
+        faces: face_count,
         edges,
     })
 }

@@ -9,7 +9,6 @@ use crate::chains::Chains;
 use crate::convexity::check_faces;
 use crate::counts::Counts;
 use crate::doorways::list_doorways;
-use crate::edge::Edge;
 use crate::edges::list_edges;
 use crate::layout::read_layout;
 use maps::passage::Passage;
@@ -37,16 +36,9 @@ fn open(
     ensures answer { result ≡ (opened (points corners.now) sizes.now numbers.now space.old).result }
     ensures after { space.new ≡ (opened (points corners.now) sizes.now numbers.now space.old).space }
 {
-    let mut table = [Edge {
-        from: 0,
-        to: 0,
-        face: 0,
-    }; 4096];
-    let count = list_edges(sizes, numbers, &mut table);
-    let edges = &table[0..count];
-    let mut chains = Chains::new();
-    chains.link(edges)?;
-    Ok(list_doorways(corners, edges, &chains, space))
+    let edges = list_edges(sizes, numbers);
+    let chains = Chains::of(&edges)?;
+    Ok(list_doorways(corners, &chains, space))
 }
 
 fn read_plan(
@@ -73,47 +65,16 @@ fn read_plan(
     Ok(Counts { rooms, doorways })
 }
 
-fn clear_doorways(space: &mut [Passage])
-    ensures { space.new ≡ replicate (length space.old) nothing }
-{
-    for x in space.iter_mut() {
-        *x = Passage {
-            near: 0,
-            far: 0,
-            left_x: 0,
-            left_y: 0,
-            right_x: 0,
-            right_y: 0,
-        };
-    }
-}
-
-fn clear_corners(space: &mut [Corner])
-    ensures { points space.new ≡ replicate (length space.old) (pos 0, pos 0) }
-{
-    for x in space.iter_mut() {
-        *x = Corner {
-            at: Post { x: 0, y: 0 },
-        };
-    }
-}
-
-fn clear_numbers(space: &mut [u16])
-    ensures { space.new ≡ replicate (length space.old) 0 }
-{
-    for x in space.iter_mut() {
-        *x = 0;
-    }
-}
-
 fn clear(doorways: &mut [Passage], corners: &mut [Corner], numbers: &mut [u16])
     ensures doorways { doorways.new ≡ replicate (length doorways.old) nothing }
     ensures corners { points corners.new ≡ replicate (length corners.old) (pos 0, pos 0) }
     ensures numbers { numbers.new ≡ replicate (length numbers.old) 0 }
 {
-    clear_doorways(doorways);
-    clear_corners(corners);
-    clear_numbers(numbers);
+    doorways.fill(Passage::NONE);
+    corners.fill(Corner {
+        at: Post { x: 0, y: 0 },
+    });
+    numbers.fill(0);
 }
 
 // Whether spaces of so many places are too short.

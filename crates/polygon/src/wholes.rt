@@ -1,12 +1,17 @@
-// Numbers without a sign, within limits.
+// Numbers within limits.
 ghost use Rattle.std.specs.Prelude.{◌≡◌, ◌<◌, ◌≤◌, IfOk};
 ghost use Rattle.text.specs.Lexing.{text_of, at_of};
 ghost use Rattle.polygon.specs.Wholes.{limited, whole};
 
 use text::{Fault, Ground, Lexer, Number};
 
-// The number's value, which must be at least `least` and below `below`.
-fn value_within(n: Number, ground: Ground, least: usize, below: usize) -> Result<usize, Fault>
+// The number's magnitude, which must be at least `least` and below `below`; else the ground of the fault is `ground`.
+pub(crate) fn value_within(
+    n: Number,
+    ground: Ground,
+    least: usize,
+    below: usize,
+) -> Result<usize, Fault>
     ensures answer { result ≡ limited ground least below n }
     ensures bound { IfOk result (λ v. (least ≤ v) × (v < below)) }
 {
@@ -18,7 +23,7 @@ fn value_within(n: Number, ground: Ground, least: usize, below: usize) -> Result
     }
 }
 
-// The next number, which must be at least `least` and below `below`; else the ground of the fault is `ground`.
+// The next number without a sign, within the same limits.
 pub(crate) fn whole_within(
     lexer: &mut Lexer,
     ground: Ground,

@@ -1,24 +1,28 @@
 -- The next mark: one byte of the way, and what was found in words.
-use Rattle.std.proofs.Common.{◌≡◌, ℕ, ◌+◌, ◌<◌, ◌≤◌, true, false, cond, ◌⊎◌, List, [], ◌∷◌, length, get_or, drop, Some, None, Option, sym, refl, ap, ◌∙◌, subst, inl, inr, arith}
-use Rattle.std.specs.List.{AllByRecursion}
+use Rattle.std.proofs.Common.{◌≡◌, ℕ, ◌+◌, ◌<◌, true, false, cond, ◌⊎◌, List, [], ◌∷◌, length, get_or, drop, Some, None, Option, sym, refl, ap, ◌∙◌, subst, inl, inr, arith}
+use Rattle.std.specs.List.{AllByRecursion, slice_get}
+use Rattle.std.proofs.lemmas.Option.{get_or_from_slice_get, slice_get_within}
 use Rattle.std.proofs.lemmas.List.{at_drop_more, at_drop_all, drop-drop}
 use Rattle.std.proofs.lemmas.Bool.{cond-true, cond-false}
 use Rattle.text.specs.Bytes.{White, white}
 use Rattle.text.specs.Marks.{Mark, marks, marked, Found}
+use Rattle.text.proofs.Spans.{none_past}
 use Rattle.text.proofs.Classes.{white_true, white_false, cases_white}
 
 module _ (t : List ℕ) (at : ℕ) where
-  pub mark_end : length t ≤ at → marked t at ≡ record { found = None; at = at }
-  mark_end h = at_drop_all (marks at) t at h
+  pub mark_end : slice_get t at ≡ None → marked t at ≡ record { found = None; at = at }
+  mark_end none = at_drop_all (marks at) t at (none_past t at none)
 
   step : at < length t → marked t at ≡ cond (white (get_or t at 0)) (marked t (at + 1)) (record { found = Some (get_or t at 0, at); at = at + 1 })
   step h = at_drop_more (marks at) t at 0 h
 
-  pub mark_white : (b : ℕ) → b ≡ get_or t at 0 → at < length t → white b ≡ true → marked t at ≡ marked t (at + 1)
-  mark_white b e h w = step h ∙ cond-true _ _ _ (ap white (sym e) ∙ w)
+  pub mark_white : (b : ℕ) → slice_get t at ≡ Some b → white b ≡ true → marked t at ≡ marked t (at + 1)
+  mark_white b byte w = step (slice_get_within t at b byte) ∙ cond-true _ _ _ (ap white (get_or_from_slice_get t at b 0 byte) ∙ w)
 
-  pub mark_found : (b : ℕ) → b ≡ get_or t at 0 → at < length t → white b ≡ false → marked t at ≡ record { found = Some (b, at); at = at + 1 }
-  mark_found b e h w = step h ∙ cond-false _ _ _ (ap white (sym e) ∙ w) ∙ ap (λ x. record { found = Some (x, at); at = at + 1 }) (sym e)
+  pub mark_found : (b : ℕ) → slice_get t at ≡ Some b → white b ≡ false → marked t at ≡ record { found = Some (b, at); at = at + 1 }
+  mark_found b byte w =
+      let e = get_or_from_slice_get t at b 0 byte in
+      step (slice_get_within t at b byte) ∙ cond-false _ _ _ (ap white e ∙ w) ∙ ap (λ x. record { found = Some (x, at); at = at + 1 }) e
 
 tail_at : (t : List ℕ) (at b : ℕ) (bs : List ℕ) → drop at t ≡ b ∷ bs → drop (at + 1) t ≡ bs
 tail_at t at b bs e = sym (drop-drop 1 at t) ∙ ap (drop 1) e

@@ -1,6 +1,7 @@
 -- The longest front of a list of which a test holds.
-use Rattle.std.proofs.Common.{◌≡◌, ℕ, ◌⊎◌, List, [], ◌∷◌, ◌++◌, refl, ap, inl, inr}
-use Rattle.std.specs.List.{AllByRecursion}
+use Rattle.std.proofs.Common.{◌≡◌, ℕ, zero, suc, ◌≤◌, ◌⊎◌, List, [], ◌∷◌, ◌++◌, length, None, sym, refl, ap, inl, inr, arith}
+use Rattle.std.specs.List.{slice_get, AllByRecursion}
+use Rattle.std.proofs.lemmas.Option.{none-some}
 
 abbrev pub Not : (ℕ → Type 0) → List ℕ → Type 0
 Not P [] = Unit {0}
@@ -20,3 +21,9 @@ span P dec (b ∷ bs) = go (dec b) (span P dec bs)
     go : P b ⊎ (P b → ⊥) → Span P bs → Span P (b ∷ bs)
     go (inl h) s = record { front = b ∷ s.front; rest = s.rest; split = ap (λ l. b ∷ l) s.split; all = (h, s.all); stops = s.stops }
     go (inr h) s = record { front = []; rest = b ∷ bs; split = refl; all = tt; stops = h }
+
+-- a place where a list has nothing is past its end
+pub none_past : {X : Type 0} (xs : List X) (i : ℕ) → slice_get xs i ≡ None → length xs ≤ i
+none_past [] i e = omega arith
+none_past (x ∷ xs) zero e = absurd (none-some x (sym e))
+none_past (x ∷ xs) (suc i) e = omega (arith, none_past xs i e)

@@ -1,5 +1,5 @@
 // A lexer: a text, a place in it, and whether it stands between numbers, in a sign or in a number.
-ghost use Rattle.std.specs.Prelude.{◌≡◌, ◌+◌, ◌^◌, ◌<◌, length, IfOk, None, Ok};
+ghost use Rattle.std.specs.Prelude.{◌≡◌, slice_get, ◌+◌, ◌^◌, ◌<◌, length, IfOk, None, Ok};
 ghost use Rattle.text.specs.Turns.{begun, extended, told, state_after, at_after, Sound};
 ghost use Rattle.text.specs.declared.lexing.State.TheVariants.{Between};
 ghost use Rattle.text.specs.Marks.{marked, expected, over, Found};
@@ -75,6 +75,13 @@ impl<'a> Lexer<'a> {
         Lexer { text, at, state }
     }
 
+    // The byte where the lexer stands, if the text has one there.
+    fn peek(&self) -> Option<u8>
+        ensures { result ≡ slice_get (text_of self.now) (at_of self.now) }
+    {
+        self.text.get(self.at).copied()
+    }
+
     // Moves on by the byte `b`, which stands where the lexer does. A number that `b` ends is answered.
     fn step(&mut self, b: u8, signed: bool) -> Result<Option<Number>, Fault>
         requires { (at_of self.old < length (text_of self.old)) × (Sound (state_of self.old)) }
@@ -122,8 +129,7 @@ impl<'a> Lexer<'a> {
         ensures stands { at_of self.new ≡ (rest_of signed self.old).at }
         ensures same { text_of self.new ≡ text_of self.old }
     {
-        while self.at < self.text.len() {
-            let b = self.text[self.at];
+        while let Some(b) = self.peek() {
             if let Some(n) = self.step(b, signed)? {
                 return Ok(n);
             }
@@ -164,9 +170,8 @@ impl<'a> Lexer<'a> {
         ensures ready { state_of self.new ≡ state_of self.old }
         ensures found { Found (text_of self.old) (at_of self.old) result (at_of self.new) }
     {
-        while self.at < self.text.len() {
+        while let Some(b) = self.peek() {
             let at = self.at;
-            let b = self.text[at];
             self.at += 1;
             if !is_white(b) {
                 return Some((b, at));
