@@ -14,11 +14,11 @@ use orders::order;
 use pile::Pile;
 use plan::{Plan, load};
 use report::report;
-use sightlines::order::Order;
 use std::alloc::{AllocError, Global};
 use std::env;
 use std::io::{Read, Write};
 use text::Fault;
+use visibility::order::Order;
 
 // Says how the program is called, and that it was not called so.
 fn usage(rt: &HostRuntime) -> anyhow::Result<()> {

@@ -1,7 +1,7 @@
 // Orders by their words.
-use sightlines::call::Call;
-use sightlines::order::Order;
 use std::alloc::{AllocError, Global};
+use visibility::call::Call;
+use visibility::order::Order;
 
 // The longest bitmap is that of 256 rooms.
 const BITMAP: usize = 8203;

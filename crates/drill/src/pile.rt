@@ -1,11 +1,11 @@
 // The piles of stabbers, by name.
 use maps::map::Map;
-use sightlines::order::Order;
-use sightlines::run::{run, run_sharp};
 use stabbing::both::Both;
 use stabbing::exact::Exact;
 use stabbing::memory::Memory;
 use stabbing::wedge::Wedge;
+use visibility::order::Order;
+use visibility::run::{run, run_sharp};
 
 #[derive(Clone, Copy)]
 pub enum Pile {

@@ -1,9 +1,9 @@
 // What is printed of orders and their answers.
 use crate::lines::Line;
-use sightlines::call::Answer;
-use sightlines::order::Order;
-use sightlines::sightline::Sightline;
 use std::alloc::{AllocError, Global};
+use visibility::call::Answer;
+use visibility::order::Order;
+use visibility::sightline::Sightline;
 
 const DIGITS: &[u8; 16] = b"0123456789abcdef";
 
@@ -32,13 +32,13 @@ fn witness(heap: Global, sightline: Sightline, doorways: &[usize]) -> Result<Str
 // The answer of an order.
 fn answer(heap: Global, order: &Order) -> Result<String, AllocError> {
     match order.answer {
-        Some(Answer::Count(n)) => format!(in heap; "{n}"),
-        Some(Answer::Seen(true)) => String::from_str(heap, "yes"),
-        Some(Answer::Seen(false)) => String::from_str(heap, "no"),
-        Some(Answer::Found(sightline)) => witness(heap, sightline, order.doorways.as_slice()),
-        Some(Answer::Written(count)) => hexadecimal(heap, order.bytes.as_slice(), count),
-        Some(Answer::NotSharp) => String::from_str(heap, "not sharp"),
-        Some(Answer::Refused(refusal)) => {
+        Some(Ok(Answer::Count(n))) => format!(in heap; "{n}"),
+        Some(Ok(Answer::Seen(true))) => String::from_str(heap, "yes"),
+        Some(Ok(Answer::Seen(false))) => String::from_str(heap, "no"),
+        Some(Ok(Answer::Found(sightline))) => witness(heap, sightline, order.doorways.as_slice()),
+        Some(Ok(Answer::Written(count))) => hexadecimal(heap, order.bytes.as_slice(), count),
+        Some(Ok(Answer::NotSharp)) => String::from_str(heap, "not sharp"),
+        Some(Err(refusal)) => {
             let number = refusal.number();
             format!(in heap; "refused {number}")
         }

@@ -1,12 +1,12 @@
 -- The bits of a row's bytes.
-use Rattle.std.proofs.Common.{◌≡◌, ℕ, zero, suc, ◌+◌, ◌-◌, ◌*◌, ◌/◌, ◌%◌, ◌^◌, ◌<◌, ◌≤◌, ◌||◌, eqb, List, length, get_or, set, replicate, sym, refl, ap, ◌∙◌, subst, ⊎_elim, one-mul, arith}
+use Rattle.std.proofs.Common.{◌≡◌, ℕ, zero, suc, ◌+◌, ◌-◌, ◌/◌, ◌%◌, ◌^◌, ◌<◌, ◌≤◌, ◌||◌, eqb, List, length, get_or, replicate, sym, refl, ap, ◌∙◌, subst, ⊎_elim, one-mul, arith}
 use mathlib.Core.Path.{fun_ext}
 use native.Mathlib.Nat.{div-eq_of_lt, zero-div}
 use lib.Bits.{bit_or, or_zero_r, shifted_even}
 use Rattle.std.proofs.lemmas.Nat.{pow-add, pow_below, shl-shr, or_shr, or_mod, one_shl, mod_below}
 use Rattle.std.proofs.lemmas.Bool.{cases_eq, cases_lt, eq-eqb, ne_eqb}
 use Rattle.std.proofs.lemmas.List.{get_or-set_same, get_or-set_other}
-use Rattle.visibility.specs.Bits.{bit, shown}
+use Rattle.visibility.specs.Bits.{bit, shown, marked}
 use Rattle.visibility.specs.Sets.{none, with}
 
 zeros : (n i : ℕ) → ◌≡◌ {A = ℕ} (get_or (replicate n 0) i 0) 0
@@ -64,10 +64,7 @@ bit_of_or v i j =
     ∙ ap (λ t. t || bit v i) (sym (ne_eqb i j ne)))
     (cases_eq i j)
 
--- the byte of a room with the room's bit set
-abbrev pub marked : List ℕ → ℕ → List ℕ
-marked xs b = set xs (b / 8) (bit_or (get_or xs (b / 8) 0) ((1 * 2 ^ (7 - b % 8)) % 256))
-
+-- a room's bit that was set shows the room too
 pub shown_marked : (xs : List ℕ) (b : ℕ) → b / 8 < length xs → shown (marked xs b) ≡ with (shown xs) b
 shown_marked xs b h =
     fun_ext

@@ -7,8 +7,10 @@ use Rattle.visibility.specs.declared.refusal.Refusal.{Refusal}
 use Rattle.visibility.specs.declared.refusal.Refusal.TheVariants.{NoSuchRoom, NotFilled, NoSuchDoorway, Already}
 use Rattle.visibility.specs.declared.call.Call.{Call}
 use Rattle.visibility.specs.declared.call.Call.TheVariants.{Fill, Shows}
-use Rattle.visibility.specs.Answers.{counted, sighted}
-use Rattle.visibility.specs.Histories.{turns, shut_after, SeenAfter, Apart, Current, Counts, Lost, TurnAnswered, FillAnswered, ShowsAnswered, Stands}
+use Rattle.visibility.specs.declared.call.Answer.{Answer}
+use Rattle.visibility.specs.declared.call.Answer.TheVariants.{Count, Seen}
+use Rattle.visibility.specs.Histories.{turns, shut_after, SeenAfter, Apart, Current, Counts, Lost, Stands}
+use Rattle.visibility.specs.Replies.{TurnAnswered, FillAnswered, ShowsAnswered}
 use Rattle.visibility.specs.Sets.{Numbers, both, Exactly}
 use Rattle.visibility.specs.Sights.{touches}
 use Rattle.visibility.specs.States.{State, ByGround, place, no_room, no_sight, no_turn, Fills, Turns}
@@ -17,21 +19,32 @@ use Rattle.visibility.specs.Worlds.{World, Lawful}
 use Rattle.visibility.proofs.SameRows.{row_stays, row_stayed}
 use Rattle.visibility.proofs.States.{fill_refused, turn_missing, turn_already, turn_free}
 
+-- what a call gives, as an answer
+abbrev pub answered : {X : Type 0} → (X → Answer) → Result X Refusal → Result Answer Refusal
+answered f (Ok x) = Ok (f x)
+answered f (Err e) = Err e
+
+pub answered_is :
+    {X : Type 0} (f : X → Answer) (r : Result X Refusal) (v : Result Answer Refusal)
+    → MatchResult r (λ x. v ≡ Ok (f x)) (λ e. v ≡ Err e) → answered f r ≡ v
+answered_is f (Ok x) v h = sym h
+answered_is f (Err e) v h = sym h
+
 -- what a call did, by its ground
 module _ {X : Type 0} (o : Option Refusal) (r : Result X Refusal) (s t : State) (P : X → Type 0) (h : ByGround o r s t P) where
-  was_refused : (e : Refusal) → o ≡ Some e → (r ≡ Err e) × (t ≡ s)
+  pub was_refused : (e : Refusal) → o ≡ Some e → (r ≡ Err e) × (t ≡ s)
   was_refused e q = subst (λ (v : Option Refusal). ByGround v r s t P) q h
 
-  was_granted : o ≡ None → MatchResult r P (λ _. ⊥)
+  pub was_granted : o ≡ None → MatchResult r P (λ _. ⊥)
   was_granted q = subst (λ (v : Option Refusal). ByGround v r s t P) q h
 
-ok_of : {X : Type 0} (r : Result X Refusal) (P : X → Type 0) → MatchResult r P (λ _. ⊥) → (x : X) × (r ≡ Ok x) × P x
+pub ok_of : {X : Type 0} (r : Result X Refusal) (P : X → Type 0) → MatchResult r P (λ _. ⊥) → (x : X) × (r ≡ Ok x) × P x
 ok_of (Ok x) P h = (x, refl, h)
 ok_of (Err e) P h = absurd h
 
 module _ (w : World) (h : List Call) where
   -- a call that leaves all as it was
-  same_stands :
+  pub same_stands :
       (c : Call) (s : State) → Stands w h s → shut_after w (c ∷ h) ≡ shut_after w h
       → ((a : ℕ) → a < w.rooms → (Current w (c ∷ h) a → Current w h a) × (Current w h a → Current w (c ∷ h) a))
       → Stands w (c ∷ h) s
@@ -75,7 +88,7 @@ module _ (w : World) (h : List Call) where
 
   pub after_fill :
       (s t : State) (a : ℕ) (r : Result ℕ Refusal) → Stands w h s → ByGround (no_room w a) r s t (Fills w s a t)
-      → Stands w (Fill a ∷ h) t × FillAnswered w h a (counted r)
+      → Stands w (Fill a ∷ h) t × FillAnswered w h a (answered Count r)
   after_fill s t a r st g =
       ⊎_elim
       (λ (l : a < w.rooms).
@@ -87,7 +100,7 @@ module _ (w : World) (h : List Call) where
           missing = λ past. absurd (omega arith);
           done = λ _. (
             k.0,
-            ap counted k.1,
+            ap (answered Count) k.1,
             (
               t.shows a,
               (λ x _. subst (λ (v : Numbers). Exactly (t.shows a) (TrueRow w v a)) st.shut f.true_row x),
@@ -99,7 +112,7 @@ module _ (w : World) (h : List Call) where
       (λ (past : w.rooms ≤ a).
       let k = was_refused (no_room w a) r s t (Fills w s a t) g NoSuchRoom (fill_refused w a past) in (
         subst (Stands w (Fill a ∷ h)) (sym k.1) (same_stands (Fill a) s st refl (fill_same a past)),
-        record { missing = λ _. ap counted k.0; done = λ l. absurd (omega arith) },
+        record { missing = λ _. ap (answered Count) k.0; done = λ l. absurd (omega arith) },
       ))
       (cases_lt a w.rooms)
 
@@ -107,15 +120,15 @@ module _ (w : World) (h : List Call) where
   pub after_shows :
       (s : State) (a b : ℕ) (r : Result Bool Refusal) → Stands w h s
       → ByGround (no_sight w s a b) r s s (λ y. y ≡ s.shows a b)
-      → Stands w (Shows a b ∷ h) s × ShowsAnswered w h a b (sighted r)
+      → Stands w (Shows a b ∷ h) s × ShowsAnswered w h a b (answered Seen r)
   after_shows s a b r st g = (
     same_stands (Shows a b) s st refl (λ x l. (λ k. k, λ k. k)),
     record {
       missing = ⊎_elim
           (λ (past : w.rooms ≤ a).
-          ap sighted (was_refused (no_sight w s a b) r s s _ g NoSuchRoom (cond-false (ltb a w.rooms) _ _ (le-ltb a w.rooms past))).0)
+          ap (answered Seen) (was_refused (no_sight w s a b) r s s _ g NoSuchRoom (cond-false (ltb a w.rooms) _ _ (le-ltb a w.rooms past))).0)
           (λ (past : w.rooms ≤ b).
-          ap sighted (was_refused (no_sight w s a b) r s s _ g NoSuchRoom
+          ap (answered Seen) (was_refused (no_sight w s a b) r s s _ g NoSuchRoom
           (⊎_elim
           (λ (l : a < w.rooms).
           cond-true (ltb a w.rooms) _ _ (lt-ltb a w.rooms l) ∙ cond-false (ltb b w.rooms) _ _ (le-ltb b w.rooms past))
@@ -124,7 +137,7 @@ module _ (w : World) (h : List Call) where
       unfilled = λ l m none_yet.
           let f : s.filled a ≡ false =
           ⊎_elim (λ (t : s.filled a ≡ true). absurd (none_yet (st.current a l t))) (λ (f : s.filled a ≡ false). f) (cases_Bool (s.filled a)) in
-          ap sighted (was_refused (no_sight w s a b) r s s _ g NotFilled
+          ap (answered Seen) (was_refused (no_sight w s a b) r s s _ g NotFilled
           (cond-true (ltb a w.rooms) _ _ (lt-ltb a w.rooms l) ∙ cond-true (ltb b w.rooms) _ _ (lt-ltb b w.rooms m)
           ∙ cond-false (s.filled a) _ _ f)).0;
       done = λ l m cur.
@@ -133,7 +146,7 @@ module _ (w : World) (h : List Call) where
           (cond-true (ltb a w.rooms) _ _ (lt-ltb a w.rooms l) ∙ cond-true (ltb b w.rooms) _ _ (lt-ltb b w.rooms m)
           ∙ cond-true (s.filled a) _ _ t)) in
           let row = st.true_row a l t b in
-          (k.0, ap sighted k.1, (λ y. row.0 (sym k.2 ∙ y)), (λ y. k.2 ∙ row.1 y));
+          (k.0, ap (answered Seen) k.1, (λ y. row.0 (sym k.2 ∙ y)), (λ y. k.2 ∙ row.1 y));
     },
   )
 
@@ -241,7 +254,7 @@ module _ (w : World) (lawful : Lawful w) (h : List Call) (c : Call) (k : ℕ) (v
 
   pub after_turn :
       (s t : State) (r : Result ℕ Refusal) → Stands w h s → ByGround (no_turn w s k v) r s t (Turns w s k v t)
-      → Stands w (c ∷ h) t × TurnAnswered w h c k v (counted r)
+      → Stands w (c ∷ h) t × TurnAnswered w h c k v (answered Count r)
   after_turn s t r st g =
       let at : s.shut k ≡ shut_after w h k = ap (λ (z : Numbers). z k) st.shut in
       ⊎_elim
@@ -255,7 +268,7 @@ module _ (w : World) (lawful : Lawful w) (h : List Call) (c : Call) (k : ℕ) (v
         subst (Stands w (c ∷ h)) (sym q.1) (turn_kept s off st),
         record {
           missing = λ past. absurd (omega arith);
-          already = λ _ _. ap counted q.0;
+          already = λ _ _. ap (answered Count) q.0;
           done = λ _ ne. absurd (true≢false (sym y ∙ ap (λ (b : Bool). beq b v) at ∙ beq_other (shut_after w h k) v ne));
         },
       ))
@@ -268,7 +281,7 @@ module _ (w : World) (lawful : Lawful w) (h : List Call) (c : Call) (k : ℕ) (v
         record {
           missing = λ past. absurd (omega arith);
           already = λ _ e. absurd (true≢false (sym (beq_same (shut_after w h k) v e) ∙ ap (λ (b : Bool). beq b v) (sym at) ∙ y));
-          done = λ _ _. (q.0, ap counted q.1, turn_counts s t q.0 on st q.2);
+          done = λ _ _. (q.0, ap (answered Count) q.1, turn_counts s t q.0 on st q.2);
         },
       ))
       (cases_Bool (beq (s.shut k) v)))
@@ -278,7 +291,7 @@ module _ (w : World) (lawful : Lawful w) (h : List Call) (c : Call) (k : ℕ) (v
       ap (λ (b : Bool). b && not (beq (shut_after w h k) v)) (le-ltb k (length w.doorways) past) in (
         subst (Stands w (c ∷ h)) (sym q.1) (turn_kept s off st),
         record {
-          missing = λ _. ap counted q.0;
+          missing = λ _. ap (answered Count) q.0;
           already = λ l _. absurd (omega arith);
           done = λ l _. absurd (omega arith);
         },

@@ -51,9 +51,6 @@ free_with n e b l h =
     (ap (λ t. not (t || e b)) (eq-eqb b b refl))
     (λ x ne. ap (λ t. not (t || e x)) (sym (ne_eqb x b ne)))
 
-pub free_pos : (n : ℕ) (e : Numbers) (b : ℕ) → b < n → e b ≡ false → 0 < free n e
-free_pos n e b l h = omega (arith, free_with n e b l h)
-
 pub number_more : (n : ℕ) (s : Numbers) → number (n + 1) s ≡ cond (s n) 1 0 + number n s
 unfolding number
 number_more n s = ap (λ m. number m s) (add-one n)

@@ -4,7 +4,8 @@ use Rattle.std.specs.List.{range_with_len, flat_map}
 use Rattle.std.proofs.lemmas.Bool.{cases_Bool}
 use Rattle.plane.specs.declared.quad.Quad.{Quad}
 use Rattle.visibility.specs.Orders.{In, Before, Rising, without_last, InOrder}
-use Rattle.visibility.specs.Questions.{Trip, tried, rest, due}
+use Rattle.visibility.specs.Questions.{tried, rest, due}
+use Rattle.visibility.specs.Trips.{Trip}
 use Rattle.visibility.specs.Sets.{Numbers, only, with, free}
 use Rattle.visibility.specs.Steps.{onward}
 use Rattle.visibility.specs.Walks.{Walk, Open}

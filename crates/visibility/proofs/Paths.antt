@@ -1,7 +1,7 @@
 -- The crossings of a walk are a path, so that the laws of stabbers speak of them.
-use Rattle.std.proofs.Common.{◌≡◌, ℕ, ◌≤◌, Bool, true, not, List, [], ◌∷◌, length, is_some as option_is_some, Some, None, Option, sym, refl, ap, ◌∙◌, subst, ⊎_elim, arith}
+use Rattle.std.proofs.Common.{◌≡◌, ℕ, suc, ◌<◌, ◌≤◌, Bool, true, not, List, [], ◌∷◌, length, is_some as option_is_some, Some, None, Option, sym, refl, ap, ◌∙◌, subst, ⊎_elim, arith}
 use Rattle.std.specs.List.{AllByRecursion}
-use Rattle.std.proofs.lemmas.Bool.{false≢true}
+use Rattle.std.proofs.lemmas.Bool.{false≢true, eq-eqb, ne_eqb}
 use Rattle.plane.specs.Limits.{Path, Crosses, InLimits}
 use Rattle.plane.specs.Separation.{Point, Coefficients, Proper, Separates, Stabbed}
 use Rattle.plane.specs.declared.quad.Quad.{Quad}
@@ -10,7 +10,7 @@ use Rattle.visibility.specs.Limits.{most_rooms}
 use Rattle.visibility.specs.Sets.{Numbers, only, with, free}
 use Rattle.visibility.specs.Walks.{forward, backward, Goes, Walk, TrueRow, Lined}
 use Rattle.visibility.specs.Worlds.{World, Inside}
-use Rattle.visibility.proofs.Numbers.{free_with, number_le}
+use Rattle.visibility.proofs.Numbers.{free_with, number_le, number_less}
 use Rattle.visibility.proofs.Steps.{follows_inside}
 
 forward_crosses : (d : Doorway) → Crosses (forward d)
@@ -52,6 +52,20 @@ goes_short w inside e a (k ∷ ks) b (q ∷ p) g =
     let rest = goes_short w inside (with e g.0) g.0 ks b p g.2 in
     let fewer = free_with w.rooms e g.0 (follows_inside w e a k g.0 q inside g.1) g.1.3 in
     omega (arith, rest, fewer)
+
+goes_doors : (w : World) (e : Numbers) (a : ℕ) (ks : List ℕ) (b : ℕ) (p : List Quad) → Goes w e a ks b p → length ks ≡ length p
+goes_doors w e a [] b [] g = refl
+goes_doors w e a [] b (q ∷ p) g = absurd g
+goes_doors w e a (k ∷ ks) b [] g = absurd g
+goes_doors w e a (k ∷ ks) b (q ∷ p) g = ap suc (goes_doors w (with e g.0) g.0 ks b p g.2)
+
+-- so it has fewer doorways than the world has rooms
+pub walk_short :
+    (w : World) → Inside w → (a : ℕ) (ks : List ℕ) (b : ℕ) (p : List Quad) → a < w.rooms → Walk w a ks b p → length ks < w.rooms
+walk_short w inside a ks b p l g =
+    let one = number_less w.rooms (λ _. true) (λ x. not (only a x)) a l refl (ap not (eq-eqb a a refl))
+    (λ x ne. sym (ap not (ne_eqb x a ne))) in
+    omega (arith, goes_doors w (only a) a ks b p g, goes_short w inside (only a) a ks b p g, one, number_le w.rooms (λ _. true))
 
 pub walk_path :
     (w : World) → Inside w → w.rooms ≤ most_rooms → (a : ℕ) (ks : List ℕ) (b : ℕ) (p : List Quad) → Walk w a ks b p → Path p

@@ -6,16 +6,15 @@ use Rattle.std.specs.List.{slice_get}
 use Rattle.std.proofs.lemmas.List.{get_or-set_same, get_or-set_other}
 use Rattle.std.proofs.lemmas.Option.{slice_get_past}
 use Rattle.std.proofs.lemmas.Bool.{cases_Bool, cases_eq, cases_lt, lt-ltb, le-ltb, eq-eqb, ne_eqb, cond-true, cond-false}
-use Rattle.plane.specs.declared.quad.Quad.{Quad}
 use Rattle.visibility.specs.declared.refusal.Refusal.{Refusal}
 use Rattle.visibility.specs.declared.refusal.Refusal.TheVariants.{NoSuchRoom, NoSuchDoorway, Already}
 use Rattle.visibility.specs.Limits.{most_rooms}
 use Rattle.visibility.specs.Sets.{Numbers, marks, with, number, Exactly}
 use Rattle.visibility.specs.States.{State, ByGround, place, no_room, no_turn, Fills}
-use Rattle.visibility.specs.Walks.{Goes, TrueRow}
+use Rattle.visibility.specs.Walks.{TrueRow}
 use Rattle.visibility.specs.Worlds.{World, Inside}
+use Rattle.visibility.proofs.Fillings.{walk_inside}
 use Rattle.visibility.proofs.Numbers.{number_wide}
-use Rattle.visibility.proofs.Steps.{follows_inside}
 
 module _ {X : Type 0} (o : Option Refusal) (s t : State) (P : X → Type 0) where
   pub refused : (e : Refusal) → o ≡ Some e → t ≡ s → ByGround o (Err e) s t P
@@ -24,17 +23,8 @@ module _ {X : Type 0} (o : Option Refusal) (s t : State) (P : X → Type 0) wher
   pub granted : (x : X) → o ≡ None → P x → ByGround o (Ok x) s t P
   granted x h p = subst (λ (v : Option Refusal). ByGround v (Ok x) s t P) (sym h) p
 
--- a walk stays in the world
-goes_inside :
-    (w : World) → Inside w → (e : Numbers) (a : ℕ) (ks : List ℕ) (b : ℕ) (p : List Quad) → a < w.rooms → Goes w e a ks b p → b < w.rooms
-goes_inside w inside e a [] b [] l g = subst (λ (x : ℕ). x < w.rooms) g l
-goes_inside w inside e a [] b (q ∷ p) l g = absurd g
-goes_inside w inside e a (k ∷ ks) b [] l g = absurd g
-goes_inside w inside e a (k ∷ ks) b (q ∷ p) l g =
-    goes_inside w inside (with e g.0) g.0 ks b p (follows_inside w e a k g.0 q inside g.1) g.2
-
 pub true_row_inside : (w : World) → Inside w → (shut : Numbers) (a b : ℕ) → a < w.rooms → TrueRow w shut a b → b < w.rooms
-true_row_inside w inside shut a b l t = goes_inside w inside _ a t.0 b t.1 l t.2
+true_row_inside w inside shut a b l t = walk_inside w inside a t.0 b t.1 l t.2
 
 -- all bits of a true row count its rooms
 count_rooms :

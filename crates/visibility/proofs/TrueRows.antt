@@ -11,7 +11,8 @@ use Rattle.visibility.specs.Sets.{Numbers, none, only, with, free}
 use Rattle.visibility.specs.Worlds.{World, Inside, Lawful}
 use Rattle.visibility.specs.Walks.{Follows, Goes, Walk, Open, TrueRow}
 use Rattle.visibility.specs.Steps.{onward}
-use Rattle.visibility.specs.Questions.{Trip, Rest, tried, rest, due, shown_all}
+use Rattle.visibility.specs.Questions.{Rest, tried, rest, due, shown_all}
+use Rattle.visibility.specs.Trips.{Trip}
 use Rattle.visibility.specs.Orders.{In, without_last}
 use Rattle.visibility.proofs.Members.{in_joined, joined_in, in_counting}
 use Rattle.visibility.proofs.Numbers.{free_with}

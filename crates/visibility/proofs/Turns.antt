@@ -1,15 +1,20 @@
 -- A turn of the search: what holds as it comes to doorway k, and that this holds again at the next.
-use Rattle.std.proofs.Common.{◌≡◌, ℕ, suc, ◌+◌, ◌<◌, ◌≤◌, Bool, true, false, cond, List, [], ◌∷◌, ◌++◌, length, take, set, Some, None, sym, ap, ◌∙◌, subst, arith}
-use mathlib.Core.Path.{subst₃, fun_ext}
+use Rattle.std.proofs.Common.{◌≡◌, ℕ, zero, suc, ◌+◌, ◌-◌, ◌<◌, ◌≤◌, Bool, true, false, List, [], ◌∷◌, ◌++◌, length, take, set, Some, None, fold, sym, ap, ◌∙◌, subst, ap₂, arith}
+use mathlib.Core.Path.{fun_ext}
+use Rattle.std.specs.List.{slice_get}
 use Rattle.std.proofs.lemmas.List.{take-set, take_more_set, take-take, length-set, set-set, set-get_or}
+use Rattle.std.proofs.lemmas.Bool.{cond-false}
 use Rattle.plane.specs.declared.quad.Quad.{Quad}
 use Rattle.maps.specs.declared.doorway.Doorway.{Doorway}
 use Rattle.visibility.specs.Sets.{Numbers, with, free, marks}
 use Rattle.visibility.specs.Worlds.{World, world, Inside}
 use Rattle.visibility.specs.Steps.{onward}
-use Rattle.visibility.specs.Questions.{due, asked_all, shown_all}
+use Rattle.visibility.specs.Indexes.{Aside, Passed}
+use Rattle.visibility.specs.Questions.{due, visited, toured}
+use Rattle.visibility.specs.Trips.{Trip}
+use Rattle.visibility.proofs.Indexing.{aside_none}
 use Rattle.visibility.proofs.Numbers.{marks_set, free_with}
-use Rattle.visibility.proofs.Questions.{upto, follow_none, follow_no, follow_yes}
+use Rattle.visibility.proofs.Questions.{upto, trip, follow_none, follow_no, follow_yes, toured_ended}
 use Rattle.visibility.proofs.Steps.{step_follows, follows_inside}
 
 -- the room that comes next: it is in the world, was not entered, and entering it leaves one fewer
@@ -26,115 +31,175 @@ module _ (w : World) (inside : Inside w) (shut : Numbers) (xs : List Bool) (a k 
       free_with w.rooms (marks xs) b i room_new
       ∙ ap (λ (s : Numbers). suc (free w.rooms s)) (sym (marks_set xs b (omega arith)))
 
-module _ {S : Type 0} (lets : S → List Quad → Bool) (asked : S → List Quad → S) (steady : (s : S) (p q : List Quad) → lets (asked s p) q ≡ lets s q) (n : ℕ) (ds : List Doorway) (inside : (l : List Quad → Bool) → Inside (world n ds l)) (shut : Numbers) (a depth : ℕ) (s₀ : S) (xs₀ : List Bool) (p₀ : List Quad) (r₀ : Numbers) where
-  abbrev W : World
-  W = world n ds (lets s₀)
+-- the first places of a list whose next place was set, and then perhaps others
+take_back :
+    {X : Type 0} (d : ℕ) (xs ys zs : List X) (x : X) → take (d + 1) zs ≡ take (d + 1) (set ys d x) → take d ys ≡ take d xs
+    → take d zs ≡ take d xs
+take_back d xs ys zs x h was =
+    sym (take-take d (d + 1) zs (omega arith)) ∙ ap (take d) h ∙ take-take d (d + 1) (set ys d x) (omega arith) ∙ take-set ys d x ∙ was
 
-  abbrev pub Turn : ℕ → S → List Bool → List Quad → Numbers → Type 0
-  Turn k s xs p r =
-      (xs ≡ xs₀) × (take depth p ≡ take depth p₀) × (length p ≡ length p₀) × (lets s ≡ lets s₀)
-      × ((ks : List ℕ) → s ≡ asked_all asked s₀ (upto W shut (marks xs₀) a ks (take depth p₀) k))
-      × ((ks : List ℕ) → r ≡ shown_all W r₀ (upto W shut (marks xs₀) a ks (take depth p₀) k))
+-- where a search starts: the stabber's and the visitor's meanings, the map, the shut doorways, the room and the depth, and how all stood
+pub record Setting (S V : Type 0) : Type 0 where
+  pub lets : S → List Quad → Bool
+  pub heard : S → List Quad → S
+  pub told : V → S → Trip → V
+  pub ended : V → Bool
+  pub steady : (s : S) (p q : List Quad) → lets (heard s p) q ≡ lets s q
+  pub rooms : ℕ
+  pub doorways : List Doorway
+  pub inside : (l : List Quad → Bool) → Inside (world rooms doorways l)
+  pub shut : Numbers
+  pub here : ℕ
+  pub depth : ℕ
+  pub s₀ : S
+  pub v₀ : V
+  pub xs₀ : List Bool
+  pub ks₀ : List ℕ
+  pub p₀ : List Quad
+
+module _ {S V : Type 0} (o : Setting S V) where
+  abbrev W : World
+  W = world o.rooms o.doorways (o.lets o.s₀)
+
+  abbrev walks : ℕ → List Trip
+  walks k = upto W o.shut (marks o.xs₀) o.here (take o.depth o.ks₀) (take o.depth o.p₀) k
+
+  abbrev pub Turn : ℕ → S → V → List Bool → List ℕ → List Quad → Type 0
+  Turn k s v xs ks p =
+      (xs ≡ o.xs₀) × (take o.depth ks ≡ take o.depth o.ks₀) × (length ks ≡ length o.ks₀) × (take o.depth p ≡ take o.depth o.p₀) × (length p ≡ length o.p₀)
+      × (o.lets s ≡ o.lets o.s₀) × ((s, v) ≡ toured o.heard o.told o.ended o.s₀ o.v₀ (walks k))
 
   -- the same by other names
   pub turn_at :
-      (k : ℕ) (s s' : S) (xs xs' : List Bool) (p p' : List Quad) (r r' : Numbers)
-      → s' ≡ s → xs' ≡ xs → p' ≡ p → r' ≡ r → Turn k s xs p r → Turn k s' xs' p' r'
-  turn_at k s s' xs xs' p p' r r' hs hx hp hr h =
-      (hx ∙ h.0, ap (take depth) hp ∙ h.1, ap length hp ∙ h.2, ap lets hs ∙ h.3, λ ks. hs ∙ h.4 ks, λ ks. hr ∙ h.5 ks)
+      (k : ℕ) (s s' : S) (v v' : V) (xs xs' : List Bool) (ks ks' : List ℕ) (p p' : List Quad)
+      → s' ≡ s → v' ≡ v → xs' ≡ xs → ks' ≡ ks → p' ≡ p → Turn k s v xs ks p → Turn k s' v' xs' ks' p'
+  turn_at k s s' v v' xs xs' ks ks' p p' hs hv hx hk hp h =
+      (hx ∙ h.0, ap (take o.depth) hk ∙ h.1, ap length hk ∙ h.2, ap (take o.depth) hp ∙ h.3, ap length hp ∙ h.4, ap o.lets hs ∙ h.5, ap₂ (λ (x : S) (y : V). (x, y)) hs hv ∙ h.6)
 
-  module _ (k : ℕ) (s : S) (xs : List Bool) (p : List Quad) (r : Numbers) (was : Turn k s xs p r) where
-    pub turn_none : None ≡ onward ds shut (marks xs) a k → Turn (k + 1) s xs p r
+  module _ (k : ℕ) (s : S) (v : V) (xs : List Bool) (ks : List ℕ) (p : List Quad) (was : Turn k s v xs ks p) where
+    -- a visitor that has ended stands as after all walks
+    pub turn_ended : o.ended v ≡ true → (m : ℕ) → k ≤ m → (s, v) ≡ toured o.heard o.told o.ended o.s₀ o.v₀ (walks m)
+    turn_ended e m l = toured_ended o.heard o.told o.ended W o.shut (marks o.xs₀) o.here (take o.depth o.ks₀) (take o.depth o.p₀) k m l (o.s₀, o.v₀) (s, v) was.6 e
+
+    pub turn_none : None ≡ onward o.doorways o.shut (marks xs) o.here k → Turn (k + 1) s v xs ks p
     turn_none h =
-        let none' : onward ds shut (marks xs₀) a k ≡ None =
-        subst (λ (v : List Bool). onward ds shut (marks v) a k ≡ None) was.0 (sym h) in (
+        let none' : onward o.doorways o.shut (marks o.xs₀) o.here k ≡ None =
+        subst (λ (v : List Bool). onward o.doorways o.shut (marks v) o.here k ≡ None) was.0 (sym h) in (
           was.0,
           was.1,
           was.2,
           was.3,
-          λ ks. follow_none (λ s t. asked s t.path) W shut (marks xs₀) a ks (take depth p₀) k s₀ s (was.4 ks) none',
-          λ ks. follow_none (λ r t. cond (W.lets t.path) (with r t.room) r) W shut (marks xs₀) a ks (take depth p₀) k r₀ r (was.5 ks) none',
+          was.4,
+          was.5,
+          follow_none (visited o.heard o.told o.ended) W o.shut (marks o.xs₀) o.here (take o.depth o.ks₀) (take o.depth o.p₀) k (o.s₀, o.v₀) (s, v) was.6 none',
         )
 
     -- entering the next room leaves one fewer, so there is a place for its crossing
     pub turn_fewer :
-        (b : ℕ) (q : Quad) → Some (b, q) ≡ onward ds shut (marks xs) a k → n ≤ length xs
-        → free n (marks xs₀) ≡ suc (free n (marks (set xs b true)))
+        (b : ℕ) (q : Quad) → Some (b, q) ≡ onward o.doorways o.shut (marks xs) o.here k → o.rooms ≤ length xs
+        → free o.rooms (marks o.xs₀) ≡ suc (free o.rooms (marks (set xs b true)))
     turn_fewer b q h long =
-        ap (λ (v : List Bool). free n (marks v)) (sym was.0) ∙ one_fewer W (inside (lets s₀)) shut xs a k b q h long
+        ap (λ (v : List Bool). free o.rooms (marks v)) (sym was.0) ∙ one_fewer W (o.inside (o.lets o.s₀)) o.shut xs o.here k b q h long
 
     pub turn_place :
-        (b : ℕ) (q : Quad) → Some (b, q) ≡ onward ds shut (marks xs) a k → n ≤ length xs
-        → depth + free n (marks xs₀) ≤ length p₀ → depth < length p
-    turn_place b q h long l = omega (arith, turn_fewer b q h long, was.2)
+        (b : ℕ) (q : Quad) → Some (b, q) ≡ onward o.doorways o.shut (marks xs) o.here k → o.rooms ≤ length xs
+        → o.depth + free o.rooms (marks o.xs₀) ≤ length o.p₀ → o.depth + free o.rooms (marks o.xs₀) ≤ length o.ks₀ → (o.depth < length p) × (o.depth < length ks)
+    turn_place b q h long l m = (omega (arith, turn_fewer b q h long, was.4), omega (arith, turn_fewer b q h long, was.2))
 
-    module _ (b : ℕ) (q : Quad) (h : Some (b, q) ≡ onward ds shut (marks xs) a k) (l : depth < length p) (v : List Quad) (at : v ≡ take (depth + 1) (set p depth q)) where
-      front : v ≡ take depth p₀ ++ q ∷ []
-      front = at ∙ take_more_set p depth q l ∙ ap (λ v. v ++ q ∷ []) was.1
+    module _ (b : ℕ) (q : Quad) (h : Some (b, q) ≡ onward o.doorways o.shut (marks xs) o.here k) (here : (o.depth < length p) × (o.depth < length ks)) (more : o.ended v ≡ false) (t : Trip) (doors : t.doors ≡ take (o.depth + 1) (set ks o.depth k)) (room : t.room ≡ b) (path : t.path ≡ take (o.depth + 1) (set p o.depth q)) where
+      front : take (o.depth + 1) (set p o.depth q) ≡ take o.depth o.p₀ ++ q ∷ []
+      front = take_more_set p o.depth q here.0 ∙ ap (λ v. v ++ q ∷ []) was.3
 
-      step : onward ds shut (marks xs₀) a k ≡ Some (b, q)
-      step = subst (λ (v : List Bool). onward ds shut (marks v) a k ≡ Some (b, q)) was.0 (sym h)
+      front_doors : take (o.depth + 1) (set ks o.depth k) ≡ take o.depth o.ks₀ ++ k ∷ []
+      front_doors = take_more_set ks o.depth k here.1 ∙ ap (λ v. v ++ k ∷ []) was.1
 
-      asked_same : lets (asked s v) ≡ lets s₀
-      asked_same = fun_ext (λ x. steady s v x) ∙ was.3
+      this : t ≡ trip (take o.depth o.ks₀) k (take o.depth o.p₀) b q
+      this =
+          ap (λ (x : List ℕ). record { doors = x; room = t.room; path = t.path }) (doors ∙ front_doors)
+          ∙ ap (λ (x : ℕ). record { doors = take o.depth o.ks₀ ++ k ∷ []; room = x; path = t.path }) room
+          ∙ ap (λ (x : List Quad). record { doors = take o.depth o.ks₀ ++ k ∷ []; room = b; path = x }) (path ∙ front)
 
-      answer : lets s v ≡ lets s₀ (take depth p₀ ++ q ∷ [])
-      answer = ap (λ (f : List Quad → Bool). f v) was.3 ∙ ap (lets s₀) front
+      step : onward o.doorways o.shut (marks o.xs₀) o.here k ≡ Some (b, q)
+      step = subst (λ (v : List Bool). onward o.doorways o.shut (marks v) o.here k ≡ Some (b, q)) was.0 (sym h)
+
+      heard_same : o.lets (o.heard s t.path) ≡ o.lets o.s₀
+      heard_same = fun_ext (λ x. o.steady s t.path x) ∙ was.5
+
+      answer : o.lets s t.path ≡ o.lets o.s₀ (take o.depth o.p₀ ++ q ∷ [])
+      answer = ap (λ (f : List Quad → Bool). f t.path) was.5 ∙ ap (o.lets o.s₀) (path ∙ front)
+
+      -- what the visit leaves
+      visit : (o.heard s t.path, o.told v s t) ≡ visited o.heard o.told o.ended (s, v) (trip (take o.depth o.ks₀) k (take o.depth o.p₀) b q)
+      visit = sym (cond-false (o.ended v) (s, v) (o.heard s t.path, o.told v s t) more) ∙ ap (visited o.heard o.told o.ended (s, v)) this
 
       pub turn_no :
-          lets s v ≡ false
-          → Turn (k + 1) (asked s v) xs (set p depth q) r
+          o.lets s t.path ≡ false
+          → Turn (k + 1) (o.heard s t.path) (o.told v s t) xs (set ks o.depth k) (set p o.depth q)
       turn_no no_way =
-          let not_let : W.lets (take depth p₀ ++ q ∷ []) ≡ false = sym answer ∙ no_way in (
+          let not_let : W.lets (take o.depth o.p₀ ++ q ∷ []) ≡ false = sym answer ∙ no_way in (
             was.0,
-            take-set p depth q ∙ was.1,
-            length-set p depth q ∙ was.2,
-            asked_same,
-            λ ks. ap (asked s) front
-                ∙ follow_no (λ s t. asked s t.path) W shut (marks xs₀) a ks (take depth p₀) k s₀ s (was.4 ks) b q step not_let,
-            λ ks. ap (λ (t : Bool). cond t (with r b) r) (sym not_let)
-                ∙ follow_no (λ r t. cond (W.lets t.path) (with r t.room) r) W shut (marks xs₀) a ks (take depth p₀) k r₀ r (was.5 ks) b q step not_let,
+            take-set ks o.depth k ∙ was.1,
+            length-set ks o.depth k ∙ was.2,
+            take-set p o.depth q ∙ was.3,
+            length-set p o.depth q ∙ was.4,
+            heard_same,
+            visit ∙ follow_no (visited o.heard o.told o.ended) W o.shut (marks o.xs₀) o.here (take o.depth o.ks₀) (take o.depth o.p₀) k (o.s₀, o.v₀) (s, v) was.6 b q step not_let,
           )
 
       -- what the search after the step leaves
       pub turn_yes :
-          n ≤ length xs → lets s v ≡ true
-          → (s₁ s' : S) (xs' : List Bool) (p' : List Quad) (r₁ r' : Numbers)
-          → s₁ ≡ asked s v
-          → r₁ ≡ with r b
+          o.rooms ≤ length xs → o.lets s t.path ≡ true
+          → (s₁ s' : S) (v₁ v' : V) (xs' : List Bool) (ks' : List ℕ) (p' : List Quad)
+          → s₁ ≡ o.heard s t.path
+          → v₁ ≡ o.told v s t
           → xs' ≡ set xs b true
-          → take (depth + 1) p' ≡ take (depth + 1) (set p depth q)
-          → length p' ≡ length (set p depth q)
-          → lets s' ≡ lets s₁
-          → ((ks : List ℕ) → s' ≡ asked_all asked s₁ (due (world n ds (lets s₁)) shut (marks (set xs b true)) b ks (take (depth + 1) (set p depth q))))
-          → ((ks : List ℕ) → r' ≡ shown_all (world n ds (lets s₁)) r₁ (due (world n ds (lets s₁)) shut (marks (set xs b true)) b ks (take (depth + 1) (set p depth q))))
-          → Turn (k + 1) s' (set xs' b false) p' r'
-      turn_yes long yes_way s₁ s' xs' p' r₁ r' hs hr hx hp hl same asks shows =
-          let new : marks xs b ≡ false = room_new W (inside (lets s₀)) shut xs a k b q h in
-          let new₀ : marks xs₀ b ≡ false = subst (λ (v : List Bool). marks v b ≡ false) was.0 new in
-          let i : b < n = room_inside W (inside (lets s₀)) shut xs a k b q h in
-          let let_in : W.lets (take depth p₀ ++ q ∷ []) ≡ true = sym answer ∙ yes_way in
-          let w≡ : lets s₁ ≡ lets s₀ = ap lets hs ∙ asked_same in
-          let e≡ : marks (set xs b true) ≡ with (marks xs₀) b =
+          → take (o.depth + 1) ks' ≡ take (o.depth + 1) (set ks o.depth k)
+          → length ks' ≡ length (set ks o.depth k)
+          → take (o.depth + 1) p' ≡ take (o.depth + 1) (set p o.depth q)
+          → length p' ≡ length (set p o.depth q)
+          → o.lets s' ≡ o.lets s₁
+          → (s', v') ≡ toured o.heard o.told o.ended s₁ v₁ (due (world o.rooms o.doorways (o.lets s₁)) o.shut (marks (set xs b true)) b (take (o.depth + 1) (set ks o.depth k)) (take (o.depth + 1) (set p o.depth q)))
+          → Turn (k + 1) s' v' (set xs' b false) ks' p'
+      turn_yes long yes_way s₁ s' v₁ v' xs' ks' p' hs hv hx hk hkl hp hpl same after =
+          let new : marks xs b ≡ false = room_new W (o.inside (o.lets o.s₀)) o.shut xs o.here k b q h in
+          let new₀ : marks o.xs₀ b ≡ false = subst (λ (v : List Bool). marks v b ≡ false) was.0 new in
+          let i : b < o.rooms = room_inside W (o.inside (o.lets o.s₀)) o.shut xs o.here k b q h in
+          let let_in : W.lets (take o.depth o.p₀ ++ q ∷ []) ≡ true = sym answer ∙ yes_way in
+          let w≡ : o.lets s₁ ≡ o.lets o.s₀ = ap o.lets hs ∙ heard_same in
+          let e≡ : marks (set xs b true) ≡ with (marks o.xs₀) b =
           marks_set xs b (omega arith) ∙ ap (λ (v : List Bool). with (marks v) b) was.0 in
-          let s≡ : s₁ ≡ asked s (take depth p₀ ++ q ∷ []) = hs ∙ ap (asked s) front in
-          let r≡ : r₁ ≡ cond (W.lets (take depth p₀ ++ q ∷ [])) (with r b) r =
-          hr ∙ ap (λ (t : Bool). cond t (with r b) r) (sym let_in) in
           let back : set (set xs b true) b false ≡ xs =
           set-set xs b true false ∙ ap (λ (t : Bool). set xs b t) (sym new) ∙ set-get_or xs b false in
-          let tk : take depth p' ≡ take depth p₀ =
-          sym (take-take depth (depth + 1) p' (omega arith)) ∙ ap (take depth) hp
-          ∙ take-take depth (depth + 1) (set p depth q) (omega arith) ∙ take-set p depth q ∙ was.1 in (
+          let x≡ : (s₁, v₁) ≡ visited o.heard o.told o.ended (s, v) (trip (take o.depth o.ks₀) k (take o.depth o.p₀) b q) =
+          ap₂ (λ (x : S) (y : V). (x, y)) hs hv ∙ visit in
+          let d≡ : due (world o.rooms o.doorways (o.lets s₁)) o.shut (marks (set xs b true)) b (take (o.depth + 1) (set ks o.depth k)) (take (o.depth + 1) (set p o.depth q)) ≡ due W o.shut (with (marks o.xs₀) b) b (take o.depth o.ks₀ ++ k ∷ []) (take o.depth o.p₀ ++ q ∷ []) =
+          ap₂ (λ (f : List Quad → Bool) (e : Numbers). due (world o.rooms o.doorways f) o.shut e b (take (o.depth + 1) (set ks o.depth k)) (take (o.depth + 1) (set p o.depth q))) w≡ e≡
+          ∙ ap₂ (λ (j : List ℕ) (v : List Quad). due W o.shut (with (marks o.xs₀) b) b j v) front_doors front in (
             ap (λ (v : List Bool). set v b false) hx ∙ back ∙ was.0,
-            tk,
-            hl ∙ length-set p depth q ∙ was.2,
+            take_back o.depth o.ks₀ ks ks' k hk was.1,
+            hkl ∙ length-set ks o.depth k ∙ was.2,
+            take_back o.depth o.p₀ p p' q hp was.3,
+            hpl ∙ length-set p o.depth q ∙ was.4,
             same ∙ w≡,
-            λ ks.
-                subst₃ (λ (f : List Quad → Bool) (e : Numbers) (v : List Quad). s' ≡ asked_all asked s₁ (due (world n ds f) shut e b (ks ++ k ∷ []) v)) w≡ e≡ (sym at ∙ front) (asks (ks ++ k ∷ []))
-                ∙ ap (λ (v : S). asked_all asked v (due W shut (with (marks xs₀) b) b (ks ++ k ∷ []) (take depth p₀ ++ q ∷ []))) s≡
-                ∙ follow_yes (λ s t. asked s t.path) W shut (marks xs₀) a ks (take depth p₀) k s₀ s (was.4 ks) b q step let_in i new₀,
-            λ ks.
-                subst₃ (λ (f : List Quad → Bool) (e : Numbers) (v : List Quad). r' ≡ shown_all (world n ds f) r₁ (due (world n ds f) shut e b (ks ++ k ∷ []) v)) w≡ e≡ (sym at ∙ front) (shows (ks ++ k ∷ []))
-                ∙ ap (λ (v : Numbers). shown_all W v (due W shut (with (marks xs₀) b) b (ks ++ k ∷ []) (take depth p₀ ++ q ∷ []))) r≡
-                ∙ follow_yes (λ r t. cond (W.lets t.path) (with r t.room) r) W shut (marks xs₀) a ks (take depth p₀) k r₀ r (was.5 ks) b q step let_in i new₀,
+            after
+                ∙ ap₂ (λ (x : S × V) (ts : List Trip). fold (visited o.heard o.told o.ended) x ts) x≡ d≡
+                ∙ follow_yes (visited o.heard o.told o.ended) W o.shut (marks o.xs₀) o.here (take o.depth o.ks₀) (take o.depth o.p₀) k (o.s₀, o.v₀) (s, v) was.6 b q step let_in i new₀,
           )
+
+  -- doorways that have no side in the room are passed over
+  turn_by :
+      (n k : ℕ) (s : S) (v : V) (xs : List Bool) (ks : List ℕ) (p : List Quad) → Turn k s v xs ks p
+      → ((i : ℕ) (d : Doorway) → k ≤ i → i < k + n → slice_get o.doorways i ≡ Some d → Aside d o.here) → Turn (k + n) s v xs ks p
+  turn_by zero k s v xs ks p was off = let e : k ≡ k + 0 = omega arith in subst (λ (m : ℕ). Turn m s v xs ks p) e was
+  turn_by (suc n) k s v xs ks p was off =
+      let e : k + 1 + n ≡ k + suc n = omega arith in
+      let none' = aside_none o.doorways o.shut (marks xs) o.here k (λ d q. off k d (omega arith) (omega arith) q) in
+      subst (λ (m : ℕ). Turn m s v xs ks p) e
+      (turn_by n (k + 1) s v xs ks p (turn_none k s v xs ks p was (sym none')) (λ i d l h q. off i d (omega arith) (omega arith) q))
+
+  pub turn_past :
+      (k j : ℕ) (s : S) (v : V) (xs : List Bool) (ks : List ℕ) (p : List Quad) → Turn k s v xs ks p → Passed o.doorways o.here k j
+      → Turn j s v xs ks p
+  turn_past k j s v xs ks p was h =
+      let e : k + (j - k) ≡ j = omega (arith, h.0) in
+      subst (λ (m : ℕ). Turn m s v xs ks p) e (turn_by (j - k) k s v xs ks p was (λ i d l q r. h.2 i d l (omega arith) r))

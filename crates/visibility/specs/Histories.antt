@@ -9,21 +9,14 @@
 --                       doorway with a side in the true row of a just before that call
 --   Counts n P c        c is how many of the numbers below n have P
 --   Lost w h c a        row a was current before the call c and is not any more
---   Answered w h c r    what the call c after h must answer, by the kind of call:
---   FillAnswered ..    a missing room is refused; else the answer counts the true row
---   ShowsAnswered ..   missing rooms and a row that is not current are refused; else yes for exactly the true row
---   TurnAnswered ..    a missing doorway, and one that is shut or open already, are refused; else the answer counts the rows lost
 --   Stands w h s        the state s is as the history h makes it: the shut doorways, the current rows and no others filled,
 --                       and each filled row shows exactly the true row
-use Rattle.std.specs.Prelude.{◌≡◌, ℕ, ◌<◌, ◌≤◌, Bool, true, false, cond, not, ◌&&◌, ◌⊎◌, List, [], ◌∷◌, length, Some, ◌≢◌, nat_lt}
+use Rattle.std.specs.Prelude.{◌≡◌, ℕ, ◌<◌, Bool, true, false, cond, not, ◌&&◌, ◌⊎◌, List, [], ◌∷◌, length, Some, nat_lt}
 use Rattle.std.specs.Bool.{beq}
 use Rattle.std.specs.List.{slice_get}
 use Rattle.maps.specs.declared.doorway.Doorway.{Doorway}
-use Rattle.visibility.specs.declared.refusal.Refusal.TheVariants.{NoSuchRoom, NotFilled, NoSuchDoorway, Already}
 use Rattle.visibility.specs.declared.call.Call.{Call}
-use Rattle.visibility.specs.declared.call.Call.TheVariants.{Fill, Shows, Shut, Open}
-use Rattle.visibility.specs.declared.call.Answer.{Answer}
-use Rattle.visibility.specs.declared.call.Answer.TheVariants.{Count, Seen, Refused}
+use Rattle.visibility.specs.declared.call.Call.TheVariants.{Fill, Shows, Shut, Open, Witness, Bitmap}
 use Rattle.visibility.specs.Sets.{Numbers, none, number, Exactly}
 use Rattle.visibility.specs.States.{State, place}
 use Rattle.visibility.specs.Walks.{TrueRow}
@@ -36,6 +29,8 @@ abbrev pub shut_after : World → List Call → Numbers
 shut_after w [] = none
 shut_after w (Fill a ∷ h) = shut_after w h
 shut_after w (Shows a b ∷ h) = shut_after w h
+shut_after w (Witness a b ∷ h) = shut_after w h
+shut_after w (Bitmap ∷ h) = shut_after w h
 shut_after w (Shut k ∷ h) = cond (turned w (shut_after w h) k true) (place (shut_after w h) k true) (shut_after w h)
 shut_after w (Open k ∷ h) = cond (turned w (shut_after w h) k false) (place (shut_after w h) k false) (shut_after w h)
 
@@ -53,6 +48,8 @@ abbrev pub Current : World → List Call → ℕ → Type 0
 Current w [] a = ⊥
 Current w (Fill b ∷ h) a = ((a ≡ b) × (a < w.rooms)) ⊎ Current w h a
 Current w (Shows b c ∷ h) a = Current w h a
+Current w (Witness b c ∷ h) a = Current w h a
+Current w (Bitmap ∷ h) a = Current w h a
 Current w (Shut k ∷ h) a = Current w h a × (turns w h k true ≡ true → Apart w h a k)
 Current w (Open k ∷ h) a = Current w h a × (turns w h k false ≡ true → Apart w h a k)
 
@@ -61,26 +58,6 @@ Counts n P c = (s : Numbers) × ((x : ℕ) → x < n → (s x ≡ true → P x) 
 
 abbrev pub Lost : World → List Call → Call → ℕ → Type 0
 Lost w h c a = Current w h a × (Current w (c ∷ h) a → ⊥)
-
-pub record TurnAnswered (w : World) (h : List Call) (c : Call) (k : ℕ) (v : Bool) (r : Answer) : Type 0 where
-  pub missing : length w.doorways ≤ k → r ≡ Refused NoSuchDoorway
-  pub already : k < length w.doorways → shut_after w h k ≡ v → r ≡ Refused Already
-  pub done : k < length w.doorways → (shut_after w h k ≢ v) → (n : ℕ) × (r ≡ Count n) × Counts w.rooms (Lost w h c) n
-
-pub record FillAnswered (w : World) (h : List Call) (a : ℕ) (r : Answer) : Type 0 where
-  pub missing : w.rooms ≤ a → r ≡ Refused NoSuchRoom
-  pub done : a < w.rooms → (n : ℕ) × (r ≡ Count n) × Counts w.rooms (SeenAfter w h a) n
-
-pub record ShowsAnswered (w : World) (h : List Call) (a b : ℕ) (r : Answer) : Type 0 where
-  pub missing : (w.rooms ≤ a) ⊎ (w.rooms ≤ b) → r ≡ Refused NoSuchRoom
-  pub unfilled : a < w.rooms → b < w.rooms → (Current w h a → ⊥) → r ≡ Refused NotFilled
-  pub done : a < w.rooms → b < w.rooms → Current w h a → (y : Bool) × (r ≡ Seen y) × (y ≡ true → SeenAfter w h a b) × (SeenAfter w h a b → y ≡ true)
-
-abbrev pub Answered : World → List Call → Call → Answer → Type 0
-Answered w h (Fill a) r = FillAnswered w h a r
-Answered w h (Shows a b) r = ShowsAnswered w h a b r
-Answered w h (Shut k) r = TurnAnswered w h (Shut k) k true r
-Answered w h (Open k) r = TurnAnswered w h (Open k) k false r
 
 pub record Stands (w : World) (h : List Call) (s : State) : Type 0 where
   pub shut : s.shut ≡ shut_after w h

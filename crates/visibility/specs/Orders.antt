@@ -9,7 +9,7 @@
 --   InOrder w shut a ts   the questions ts are exactly those that are due, each once, in dictionary order
 use Rattle.std.specs.Prelude.{◌≡◌, ℕ, ◌<◌, true, ◌⊎◌, List, [], ◌∷◌}
 use Rattle.plane.specs.declared.quad.Quad.{Quad}
-use Rattle.visibility.specs.Questions.{Trip}
+use Rattle.visibility.specs.Trips.{Trip}
 use Rattle.visibility.specs.Sets.{Numbers}
 use Rattle.visibility.specs.Walks.{Walk, Open}
 use Rattle.visibility.specs.Worlds.{World}

@@ -1,5 +1,4 @@
 -- The questions that a search asks, in their order.
---   Trip              a walk as it is asked about: its doorways, the room that it leads to, its path
 --   Rest              what comes after a walk: by the rooms entered, the room reached, its doorways and its path
 --   tried ..          after the walk (ks, p) the step s through doorway k: the walk so made is asked about and, where it
 --                     is let through, what `rest` gives comes after it
@@ -8,18 +7,16 @@
 --                     doorways more
 --   due w shut ..     the same for walks of any length
 --   asked_all f s ts  how a stabber s stands after the questions ts, where f tells that of one question
+--   visited ..        how a stabber and a visitor stand after the visitor was told of a walk, unless it had ended
+--   toured ..         the same after the walks ts
 --   shown_all w r ts  the rooms r and those to which the walks of ts that are let through lead
-use Rattle.std.specs.Prelude.{ℕ, zero, suc, cond, List, [], ◌∷◌, ◌++◌, length, Some, None, fold, Option}
+use Rattle.std.specs.Prelude.{ℕ, zero, suc, Bool, cond, List, [], ◌∷◌, ◌++◌, length, Some, None, fold, Option}
 use Rattle.std.specs.List.{range_with_len, flat_map}
 use Rattle.plane.specs.declared.quad.Quad.{Quad}
 use Rattle.visibility.specs.Sets.{Numbers, with, free}
 use Rattle.visibility.specs.Worlds.{World}
 use Rattle.visibility.specs.Steps.{onward}
-
-pub record Trip : Type 0 where
-  pub doors : List ℕ
-  pub room : ℕ
-  pub path : List Quad
+use Rattle.visibility.specs.Trips.{Trip}
 
 abbrev pub Rest : Type 0
 Rest = Numbers → ℕ → List ℕ → List Quad → List Trip
@@ -45,3 +42,9 @@ asked_all f s ts = fold (λ s t. f s t.path) s ts
 
 abbrev pub shown_all : World → Numbers → List Trip → Numbers
 shown_all w r ts = fold (λ r t. cond (w.lets t.path) (with r t.room) r) r ts
+
+abbrev pub visited : {S V : Type 0} → (S → List Quad → S) → (V → S → Trip → V) → (V → Bool) → S × V → Trip → S × V
+visited heard told ended x t = cond (ended x.1) x (heard x.0 t.path, told x.1 x.0 t)
+
+abbrev pub toured : {S V : Type 0} → (S → List Quad → S) → (V → S → Trip → V) → (V → Bool) → S → V → List Trip → S × V
+toured heard told ended s v ts = fold (visited heard told ended) (s, v) ts

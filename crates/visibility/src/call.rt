@@ -1,5 +1,5 @@
 // A call on a table, and its answer, as values.
-use crate::refusal::Refusal;
+use crate::sightline::Sightline;
 
 #[derive(Clone, Copy)]
 pub enum Call {
@@ -7,6 +7,8 @@ pub enum Call {
     Shows(usize, usize),
     Shut(usize),
     Open(usize),
+    Witness(usize, usize),
+    Bitmap,
 }
 
 #[derive(Clone, Copy)]
@@ -15,5 +17,9 @@ pub enum Answer {
     Count(usize),
     // Whether a room is seen.
     Seen(bool),
-    Refused(Refusal),
+    Found(Sightline),
+    // How many bytes a bitmap has.
+    Written(usize),
+    // The stabber answers no lines, so there are no witnesses.
+    NotSharp,
 }

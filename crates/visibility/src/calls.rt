@@ -1,6 +1,7 @@
 // The calls on a table.
 ghost use Rattle.std.specs.Prelude.{◌≡◌, ℕ, Bool, true, false, [], length, if◌then◌else◌, nat_lt};
 ghost use Rattle.visibility.specs.Limits.{most_doorways};
+ghost use Rattle.visibility.specs.Orders.{InOrder};
 ghost use Rattle.visibility.specs.Questions.{due, asked_all};
 ghost use Rattle.visibility.specs.Sets.{none, only, marks};
 ghost use Rattle.visibility.specs.States.{state_of, ByGround, no_room, no_sight, no_turn, Fills, Turns};
@@ -44,6 +45,7 @@ impl<M: Map, S: Stabber> Table<M, S> {
     pub fn fill(&mut self, a: usize) -> Result<usize, Refusal>
         ensures value { ByGround (no_room (world (M.Map.rooms self.old.map) (M.Map.doorways self.old.map) (S.Stabber.lets self.old.stabber)) a) result (state_of self.old) (state_of self.new) (Fills (world (M.Map.rooms self.old.map) (M.Map.doorways self.old.map) (S.Stabber.lets self.old.stabber)) (state_of self.old) a (state_of self.new)) }
         ensures asked { self.new.stabber ≡ (if nat_lt a (M.Map.rooms self.old.map) then asked_all S.Stabber.asked self.old.stabber (due (world (M.Map.rooms self.old.map) (M.Map.doorways self.old.map) (S.Stabber.lets self.old.stabber)) (marks self.old.closed) (only a) a [] []) else self.old.stabber) }
+        ensures order { InOrder (world (M.Map.rooms self.old.map) (M.Map.doorways self.old.map) (S.Stabber.lets self.old.stabber)) (marks self.old.closed) a (due (world (M.Map.rooms self.old.map) (M.Map.doorways self.old.map) (S.Stabber.lets self.old.stabber)) (marks self.old.closed) (only a) a [] []) }
         ensures map { self.new.map ≡ self.old.map }
         ensures lets { S.Stabber.lets self.new.stabber ≡ S.Stabber.lets self.old.stabber }
     {

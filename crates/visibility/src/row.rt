@@ -1,8 +1,9 @@
 // A row: the rooms that are seen from one room, as bits.
-ghost use Rattle.std.specs.Prelude.{◌≡◌, Bool};
+ghost use Rattle.std.specs.Prelude.{◌≡◌, ◌*◌, ◌<◌, ◌≤◌, Bool, length};
 ghost use Rattle.visibility.specs.Limits.{most_rooms};
 ghost use Rattle.visibility.specs.Sets.{none, with, number};
-ghost use Rattle.visibility.specs.Bits.{shown};
+ghost use Rattle.visibility.specs.Bits.{shown, marked};
+ghost use Rattle.visibility.specs.Bitmaps.{width, octet, packed};
 
 use maps::doorway::Room;
 
@@ -23,7 +24,8 @@ pub struct Row {
 impl Row {
     // A row that shows no room.
     pub fn new() -> Row
-        ensures { shown result.bytes ≡ none }
+        ensures value { shown result.bytes ≡ none }
+        ensures long { length result.bytes ≡ 32 }
     {
         Row { bytes: [0; BYTES] }
     }
@@ -38,7 +40,8 @@ impl Row {
 
     // Shows the room too.
     pub fn mark(&mut self, room: Room)
-        ensures { shown self.new.bytes ≡ with (shown self.old.bytes) room }
+        ensures value { self.new.bytes ≡ marked self.old.bytes room }
+        ensures shown { shown self.new.bytes ≡ with (shown self.old.bytes) room }
     {
         let byte = self.bytes[(room / 8) as usize];
         self.bytes[(room / 8) as usize] = byte | (1u8 << (7 - room % 8));
@@ -62,5 +65,24 @@ impl Row {
             }
         }
         count
+    }
+
+    // The pixels 8k to 8k + 7 of a row of n, as a byte. Those from n on are 0.
+    fn octet(&self, n: usize, k: usize) -> u8
+        requires { (8 * k < n) × (n ≤ most_rooms) }
+        ensures { result ≡ octet n (shown self.now.bytes) k }
+    {
+        let spare = (8 * k + 8).saturating_sub(n);
+        (self.bytes[k] >> spare) << spare
+    }
+
+    // Writes the row's n pixels into its part of a bitmap.
+    pub(crate) fn write(&self, n: usize, part: &mut [u8])
+        requires { (n ≤ most_rooms) × (length part.old ≡ width n) }
+        ensures { part.new ≡ packed n (shown self.now.bytes) }
+    {
+        for (k, byte) in part.iter_mut().enumerate() {
+            *byte = self.octet(n, k);
+        }
     }
 }

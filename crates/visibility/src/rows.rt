@@ -1,6 +1,7 @@
 // All rows, and which of them are filled.
-ghost use Rattle.std.specs.Prelude.{◌≡◌, ℕ, ◌<◌, ◌≤◌, length, ◌≢◌};
+ghost use Rattle.std.specs.Prelude.{◌≡◌, ℕ, ◌*◌, ◌<◌, ◌≤◌, length, ◌≢◌};
 ghost use Rattle.visibility.specs.Limits.{most_rooms};
+ghost use Rattle.visibility.specs.Bitmaps.{every, width, pixels};
 ghost use Rattle.visibility.specs.Bits.{shown};
 ghost use Rattle.visibility.specs.Sets.{none, with, without, both, number, marks};
 ghost use Rattle.visibility.specs.Sights.{sight, touches};
@@ -79,5 +80,25 @@ impl Rows {
             }
         }
         count
+    }
+
+    // Whether each of the first n rows is filled.
+    pub(crate) fn all_filled(&self, n: usize) -> bool
+        requires { n ≤ most_rooms }
+        ensures { result ≡ every n (marks self.now.filled) }
+    {
+        self.filled[..n].iter().all(|filled| *filled)
+    }
+
+    // Writes the first n rows of n pixels one behind the other, each into its own part of the space.
+    pub(crate) fn write(&self, n: usize, space: &mut [u8])
+        requires { (n ≤ most_rooms) × (length space.old ≡ n * width n) }
+        ensures { space.new ≡ pixels n n (sight self.now.rows) }
+    {
+        let width = (n + 7) / 8;
+        for (a, row) in self.rows[..n].iter().enumerate() {
+            let at = a * width;
+            row.write(n, &mut space[at..at + width]);
+        }
     }
 }

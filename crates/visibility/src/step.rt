@@ -11,24 +11,10 @@ use plane::quad::Quad;
 pub fn leave(doorway: &Doorway, here: Room) -> Option<(Room, Quad)>
     ensures { result ≡ leave doorway.now here }
 {
-    let left = doorway.crossing.left;
-    let right = doorway.crossing.right;
     if doorway.near == here {
-        let quad = Quad {
-            lx: left.x,
-            ly: left.y,
-            rx: right.x,
-            ry: right.y,
-        };
-        Some((doorway.far, quad))
+        Some((doorway.far, doorway.crossing.quad()))
     } else if doorway.far == here {
-        let quad = Quad {
-            lx: right.x,
-            ly: right.y,
-            rx: left.x,
-            ry: left.y,
-        };
-        Some((doorway.near, quad))
+        Some((doorway.near, doorway.crossing.turned().quad()))
     } else {
         None
     }
@@ -49,17 +35,10 @@ pub(crate) fn onward<M: Map>(
     if shut[k] {
         return None;
     }
-    match map.doorway(k) {
-        Some(doorway) => match leave(&doorway, here) {
-            Some((room, quad)) => {
-                if entered[room as usize] {
-                    None
-                } else {
-                    Some((room, quad))
-                }
-            }
-            None => None,
-        },
-        None => None,
+    let doorway = map.doorway(k)?;
+    let (room, quad) = leave(&doorway, here)?;
+    if entered[room as usize] {
+        return None;
     }
+    Some((room, quad))
 }

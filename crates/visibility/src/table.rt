@@ -2,6 +2,7 @@
 use crate::row::DOORWAYS;
 use crate::rows::Rows;
 
+#[derive(Drop)]
 pub struct Table<M, S> {
     pub(crate) map: M,
     pub(crate) stabber: S,

@@ -10,13 +10,13 @@ use Rattle.stabbing.specs.Exact.{exact_line, first_line}
 use Rattle.stabbing.specs.Wedge.{wedge_lets}
 use Rattle.stabbing.specs.Found.{exact_front}
 use Rattle.stabbing.specs.Threes.{wedge_front}
-use Rattle.sightlines.specs.declared.call.Call.{Call}
-use Rattle.sightlines.specs.declared.call.Call.TheVariants.{Fill, Shut}
-use Rattle.sightlines.specs.Histories.{SeenAfter, Apart, Current, Lost, Counts}
-use Rattle.sightlines.specs.Questions.{rest}
-use Rattle.sightlines.specs.Sets.{none, only, number}
-use Rattle.sightlines.specs.Trips.{Trip}
-use Rattle.sightlines.specs.Worlds.{World, Inside, Lawful}
+use Rattle.visibility.specs.declared.call.Call.{Call}
+use Rattle.visibility.specs.declared.call.Call.TheVariants.{Fill, Shut}
+use Rattle.visibility.specs.Histories.{SeenAfter, Apart, Current, Lost, Counts}
+use Rattle.visibility.specs.Questions.{rest}
+use Rattle.visibility.specs.Sets.{none, only, number}
+use Rattle.visibility.specs.Trips.{Trip}
+use Rattle.visibility.specs.Worlds.{World, Inside, Lawful}
 use Rattle.worked.specs.Cases.{under_exact, under_wedge, RowIs, LineIs, CorridorCases}
 use Rattle.worked.proofs.Known.{Fair, doorway, doorways}
 use Rattle.worked.proofs.Rows.{row_is, line_is, not_shown}

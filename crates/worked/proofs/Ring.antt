@@ -6,12 +6,12 @@ use Rattle.maps.specs.Inside.{within_all}
 use Rattle.grid.specs.Doorways.{eastward, northward}
 use Rattle.stabbing.specs.Exact.{exact_line, first_line}
 use Rattle.stabbing.specs.Found.{exact_front}
-use Rattle.sightlines.specs.declared.call.Call.TheVariants.{Shut}
-use Rattle.sightlines.specs.Histories.{shut_after}
-use Rattle.sightlines.specs.Questions.{rest}
-use Rattle.sightlines.specs.Sets.{Numbers, none, number}
-use Rattle.sightlines.specs.Trips.{Trip}
-use Rattle.sightlines.specs.Worlds.{World, Inside, Lawful}
+use Rattle.visibility.specs.declared.call.Call.TheVariants.{Shut}
+use Rattle.visibility.specs.Histories.{shut_after}
+use Rattle.visibility.specs.Questions.{rest}
+use Rattle.visibility.specs.Sets.{Numbers, none, number}
+use Rattle.visibility.specs.Trips.{Trip}
+use Rattle.visibility.specs.Worlds.{World, Inside, Lawful}
 use Rattle.worked.specs.Cases.{under_exact, RowIs, LineIs, RingCases}
 use Rattle.worked.proofs.Known.{Fair, doorways}
 use Rattle.worked.proofs.Rows.{row_is, line_is, not_shown}

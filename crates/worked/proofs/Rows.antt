@@ -9,20 +9,20 @@ use Rattle.std.proofs.lemmas.Bool.{true≢false}
 use Rattle.plane.specs.First.{first}
 use Rattle.plane.specs.Separation.{Coefficients}
 use Rattle.stabbing.specs.Exact.{exact_line}
-use Rattle.sightlines.specs.declared.row.Row.{Row}
-use Rattle.sightlines.specs.Bits.{shown, marked}
-use Rattle.sightlines.specs.Orders.{InOrder}
-use Rattle.sightlines.specs.Questions.{due, shown_all, toured}
-use Rattle.sightlines.specs.Sets.{Numbers, none, only, with, number, Exactly}
-use Rattle.sightlines.specs.Trips.{Trip}
-use Rattle.sightlines.specs.Walks.{TrueRow}
-use Rattle.sightlines.specs.Witnesses.{leads}
-use Rattle.sightlines.specs.Worlds.{World, Inside, Lawful}
-use Rattle.sightlines.proofs.Bits.{shown_marked, shown_zeros}
-use Rattle.sightlines.proofs.Fillings.{toured_row, walk_inside}
-use Rattle.sightlines.proofs.Orders.{in_order}
-use Rattle.sightlines.proofs.TrueRows.{shown_true, true_shown}
-use Rattle.sightlines.proofs.Witnessed.{first_walk}
+use Rattle.visibility.specs.declared.row.Row.{Row}
+use Rattle.visibility.specs.Bits.{shown, marked}
+use Rattle.visibility.specs.Orders.{InOrder}
+use Rattle.visibility.specs.Questions.{due, shown_all, toured}
+use Rattle.visibility.specs.Sets.{Numbers, none, only, with, number, Exactly}
+use Rattle.visibility.specs.Trips.{Trip}
+use Rattle.visibility.specs.Walks.{TrueRow}
+use Rattle.visibility.specs.Witnesses.{leads}
+use Rattle.visibility.specs.Worlds.{World, Inside, Lawful}
+use Rattle.visibility.proofs.Bits.{shown_marked, shown_zeros}
+use Rattle.visibility.proofs.Fillings.{toured_row, walk_inside}
+use Rattle.visibility.proofs.Orders.{in_order}
+use Rattle.visibility.proofs.TrueRows.{shown_true, true_shown}
+use Rattle.visibility.proofs.Witnessed.{first_walk}
 use Rattle.worked.specs.Cases.{RowIs, LineIs, NoLine}
 
 abbrev pub clear : ℕ → List ℕ

@@ -15,13 +15,13 @@ use Rattle.plane.specs.Separation.{Coefficients}
 use Rattle.stabbing.specs.Exact.{exact_line}
 use Rattle.stabbing.specs.Wedge.{wedge_lets}
 use Rattle.maps.specs.declared.doorway.Doorway.{Doorway}
-use Rattle.sightlines.specs.declared.call.Call.TheVariants.{Fill, Shut}
-use Rattle.sightlines.specs.Bits.{shown}
-use Rattle.sightlines.specs.Histories.{shut_after, Current, Lost, Counts}
-use Rattle.sightlines.specs.Sets.{Numbers, none, number, Exactly}
-use Rattle.sightlines.specs.Walks.{TrueRow}
-use Rattle.sightlines.specs.Witnesses.{FirstWalk}
-use Rattle.sightlines.specs.Worlds.{World, world}
+use Rattle.visibility.specs.declared.call.Call.TheVariants.{Fill, Shut}
+use Rattle.visibility.specs.Bits.{shown}
+use Rattle.visibility.specs.Histories.{shut_after, Current, Lost, Counts}
+use Rattle.visibility.specs.Sets.{Numbers, none, number, Exactly}
+use Rattle.visibility.specs.Walks.{TrueRow}
+use Rattle.visibility.specs.Witnesses.{FirstWalk}
+use Rattle.visibility.specs.Worlds.{World, world}
 use Rattle.worked.specs.Plans.{ring, corridor, Accepted, MapOf}
 
 abbrev pub under_exact : ℕ → List Doorway → World

@@ -1,8 +1,8 @@
 // The two plans through the public calls: read, made into a map, and asked through a table.
 use crate::plans;
 use grid::{GridMap, read};
-use sightlines::refusal::Refusal;
-use sightlines::table::Table;
+use visibility::refusal::Refusal;
+use visibility::table::Table;
 use stabbing::exact::Exact;
 use stabbing::memory::Memory;
 use stabbing::stabber::Stabber;

@@ -1,15 +1,32 @@
-use Rattle.visibility.specs.Worlds.{world}
-use Rattle.visibility.proofs.Paths.{true_lined, sharp_stabbed}
+use Rattle.std.proofs.Common.{◌≡◌, ℕ, ◌<◌, true, reverse, length, take, ap, ◌∙◌, subst}
+use Rattle.std.specs.List.{HoldsAt}
+use Rattle.visibility.specs.Histories.{Stands}
+use Rattle.visibility.specs.Replies.{Answered, calls_of}
+use Rattle.visibility.specs.States.{state_of}
+use Rattle.visibility.specs.Worlds.{World, world}
+use Rattle.visibility.proofs.Paths.{lined_true, true_lined, sharp_stabbed}
+use Rattle.visibility.proofs.Portals.{sees_lined, lined_sees}
+use Rattle.visibility.proofs.Walked.{fresh_stands}
 use Rattle.visibility.proofs.run.run_sharp.Goals as goal
+
+pub serve_all-requires : goal.serve_all-requires
+serve_all-requires g c = fresh_stands _ (state_of c.new.result) c.new.ensures.shut c.new.ensures.filled
 
 pub returns : goal.returns
 returns g c =
+    let t = c.new.result in
+    let m = c.args.map in
     let s = c.args.stabber in
+    let old = c.args.orders.now in
+    let w = world (g.M.Map.rooms m) (g.M.Map.doorways m) (g.S.Stabber.lets s) in
+    let same : world (g.M.Map.rooms t.map) (g.M.Map.doorways t.map) (g.S.Stabber.lets t.stabber) ≡ w =
+    ap (λ x. world (g.M.Map.rooms x) (g.M.Map.doorways x) (g.S.Stabber.lets t.stabber)) c.new.ensures.owns.0
+    ∙ ap (λ x. world (g.M.Map.rooms m) (g.M.Map.doorways m) (g.S.Stabber.lets x)) c.new.ensures.owns.1 in
     record {
-      answered = c.run.ensures.answered;
-      rest = c.run.ensures.rest;
-      stands = c.run.ensures.stands;
-      complete = c.run.ensures.complete;
-      sharp = λ h a b. true_lined (world (g.M.Map.rooms c.args.map) (g.M.Map.doorways c.args.map) (g.S.Stabber.lets s))
-          (sharp_stabbed (g.S.Stabber.lets s) (g.S.Sharp.line s) (g.met.S.Sharp.sharp s) (g.met.S.Sharp.separates s)) _ a b;
+      answered = subst (λ (z : World). (i : ℕ) → i < length old → HoldsAt (λ o. HoldsAt (λ p. Answered true z (reverse (take i (calls_of old))) o p) c.serve_all.new.orders i) old i) same
+          c.serve_all.ensures.answered;
+      stands = subst (λ (z : World). Stands z (reverse (calls_of old)) (state_of c.serve_all.new.desk.table)) same c.serve_all.ensures.stands;
+      complete = λ h a b v. lined_true w (g.met.M.Map.inside m) (g.met.M.Map.bounded m) (g.met.S.Stabber.stabbed s) _ a b (sees_lined w _ a b v);
+      sharp = λ h a b v. lined_sees w _ a b (true_lined w
+          (sharp_stabbed (g.S.Stabber.lets s) (g.S.Sharp.line s) (g.met.S.Sharp.sharp s) (g.met.S.Sharp.separates s)) _ a b v);
     }

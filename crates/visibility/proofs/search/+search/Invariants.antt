@@ -1,15 +1,40 @@
+use Rattle.std.proofs.Common.{ℕ, ◌-◌, ◌≤◌, Bool, List, length}
+use Rattle.plane.specs.declared.quad.Quad.{Quad}
 use Rattle.visibility.specs.Sets.{marks, free}
-use Rattle.visibility.specs.Bits.{shown}
-use Rattle.visibility.proofs.Turns.{Turn}
+use Rattle.visibility.proofs.Turns.{Setting, Turn}
 use Rattle.visibility.proofs.search.+search.Given as goal
 
 abbrev pub decreases-search : goal.decreases-search
 decreases-search g l = free (g.M.Map.rooms l.map.now) (marks l.entered.now)
 
+-- where the search starts
+abbrev pub setting :
+    (g : goal.Over) → g.row.M.Denot → List Bool → ℕ → ℕ → g.row.S.Denot → g.row.V.Denot → List Bool → List ℕ → List Quad
+    → Setting g.row.S.Denot g.row.V.Denot
+setting g map shut here depth s v xs ks p = record {
+  lets = g.V.Visitor.lets;
+  heard = g.V.Visitor.heard;
+  told = g.V.Visitor.told;
+  ended = g.V.Visitor.ended;
+  steady = g.met.V.Visitor.steady;
+  rooms = g.M.Map.rooms map;
+  doorways = g.M.Map.doorways map;
+  inside = λ _. g.met.M.Map.inside map;
+  shut = marks shut;
+  here = here;
+  depth = depth;
+  s₀ = s;
+  v₀ = v;
+  xs₀ = xs;
+  ks₀ = ks;
+  p₀ = p;
+}
+
 abbrev pub invariant-loop-k : goal.invariant-loop-k
 invariant-loop-k g l =
-    Turn g.S.Stabber.lets g.S.Stabber.asked g.met.S.Stabber.steady
-    (g.M.Map.rooms l.map) (g.M.Map.doorways l.map) (λ _. g.met.M.Map.inside l.map)
-    (marks l.shut) l.here l.depth
-    l.initial.stabber l.initial.entered l.initial.path (shown l.initial.row.bytes)
-    l.k l.stabber l.entered l.path (shown l.row.bytes)
+    (l.k ≤ length (g.M.Map.doorways l.map))
+    × Turn (setting g l.map l.shut l.here l.depth l.initial.stabber l.initial.visitor l.initial.entered l.initial.doors l.initial.path)
+    l.k l.stabber l.visitor l.entered l.doors l.path
+
+abbrev pub decreases-loop-k : goal.decreases-loop-k
+decreases-loop-k g l = length (g.M.Map.doorways l.map) - l.k

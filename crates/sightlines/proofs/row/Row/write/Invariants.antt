@@ -1,7 +1,0 @@
-use Rattle.std.proofs.Common.{◌≡◌, ℕ, ◌<◌, get_or}
-use Rattle.sightlines.specs.Bits.{shown}
-use Rattle.sightlines.specs.Bitmaps.{octet}
-use Rattle.sightlines.proofs.row.Row.write.Given as goal
-
-abbrev pub invariant-loop-k : goal.invariant-loop-k
-invariant-loop-k l = (j : ℕ) → j < l.k → get_or l.part j 0 ≡ octet l.n (shown l.self.bytes) j

@@ -1,0 +1,73 @@
+-- On which grounds a witness call is refused.
+use Rattle.std.proofs.Common.{◌≡◌, ℕ, ◌+◌, ◌<◌, ◌≤◌, cond, eqb, ltb, ◌⊎◌, List, length, is_some, Some, None, Ok, Err, Option, sym, refl, ap, ◌∙◌, subst, ⊎_elim}
+use Rattle.std.proofs.lemmas.Bool.{lt-ltb, le-ltb, eq-eqb, ne_eqb, cond-true, cond-false, cases_lt}
+use Rattle.plane.specs.declared.quad.Quad.{Quad}
+use Rattle.plane.specs.Limits.{InLimits}
+use Rattle.plane.specs.Separation.{Coefficients, Proper, Separates}
+use Rattle.visibility.specs.declared.refusal.Refusal.{Refusal}
+use Rattle.visibility.specs.declared.refusal.Refusal.TheVariants.{NoSuchRoom, SameRoomTwice, SpaceTooShort, NoLine}
+use Rattle.visibility.specs.declared.sightline.Sightline.{Sightline}
+use Rattle.visibility.specs.Copying.{over}
+use Rattle.visibility.specs.Sets.{Numbers}
+use Rattle.visibility.specs.Walks.{TrueRow}
+use Rattle.visibility.specs.Witnesses.{no_witness, Told, Witnessed}
+use Rattle.visibility.specs.Worlds.{World}
+use Rattle.visibility.proofs.Copies.{over_all}
+
+module _ (w : World) (a b n : ℕ) where
+  pub witness_missing : (w.rooms ≤ a) ⊎ (w.rooms ≤ b) → no_witness w a b n ≡ Some NoSuchRoom
+  witness_missing =
+      ⊎_elim
+      (λ (past : w.rooms ≤ a). cond-false (ltb a w.rooms) _ _ (le-ltb a w.rooms past))
+      (λ (past : w.rooms ≤ b).
+      ⊎_elim
+      (λ (l : a < w.rooms).
+      cond-true (ltb a w.rooms) _ _ (lt-ltb a w.rooms l) ∙ cond-false (ltb b w.rooms) _ _ (le-ltb b w.rooms past))
+      (λ (m : w.rooms ≤ a). cond-false (ltb a w.rooms) _ _ (le-ltb a w.rooms m))
+      (cases_lt a w.rooms))
+
+  module _ (l : a < w.rooms) (m : b < w.rooms) where
+    rooms_there :
+        no_witness w a b n ≡ cond (eqb a b) (Some SameRoomTwice) (cond (ltb (n + 1) w.rooms) (Some SpaceTooShort) None)
+    rooms_there =
+        cond-true (ltb a w.rooms) _ _ (lt-ltb a w.rooms l) ∙ cond-true (ltb b w.rooms) _ _ (lt-ltb b w.rooms m)
+
+    pub witness_same : a ≡ b → no_witness w a b n ≡ Some SameRoomTwice
+    witness_same e = rooms_there ∙ cond-true (eqb a b) _ _ (eq-eqb a b e)
+
+    module _ (ne : a ≡ b → ⊥) where
+      pub witness_short : n + 1 < w.rooms → no_witness w a b n ≡ Some SpaceTooShort
+      witness_short s =
+          rooms_there ∙ cond-false (eqb a b) _ _ (ne_eqb a b ne) ∙ cond-true (ltb (n + 1) w.rooms) _ _ (lt-ltb (n + 1) w.rooms s)
+
+      pub witness_free : w.rooms ≤ n + 1 → no_witness w a b n ≡ None
+      witness_free s =
+          rooms_there ∙ cond-false (eqb a b) _ _ (ne_eqb a b ne) ∙ cond-false (ltb (n + 1) w.rooms) _ _ (le-ltb (n + 1) w.rooms s)
+
+-- how a stabber stands after a call that was refused before the search, or not
+pub asked_refused : {S : Type 0} (o : Option Refusal) (e : Refusal) (s t : S) → o ≡ Some e → s ≡ cond (is_some o) s t
+asked_refused o e s t h = sym (cond-true (is_some o) s t (ap is_some h))
+
+pub asked_granted : {S : Type 0} (o : Option Refusal) (s t u : S) → o ≡ None → u ≡ t → u ≡ cond (is_some o) s t
+asked_granted o s t u h e = e ∙ sym (cond-false (is_some o) s t (ap is_some h))
+
+module _ (w : World) (shut : Numbers) (a b : ℕ) (f : List Quad → Option Coefficients) (o : Option Refusal) (xs : List ℕ) where
+  pub witness_refused : (e : Refusal) → o ≡ Some e → Witnessed w shut a b f o (Err e) xs xs
+  witness_refused e h = subst (λ (v : Option Refusal). Witnessed w shut a b f v (Err e) xs xs) (sym h) (refl, refl)
+
+  pub witness_none : o ≡ None → (TrueRow w shut a b → ⊥) → Witnessed w shut a b f o (Err NoLine) xs xs
+  witness_none h n = subst (λ (v : Option Refusal). Witnessed w shut a b f v (Err NoLine) xs xs) (sym h) (refl, n, refl)
+
+  pub witness_found :
+      (v : Sightline) (ks ys : List ℕ) → o ≡ None → Told w shut a b f (Some v.line) ks
+      → ((p : List Quad) → f p ≡ Some v.line → Proper v.line × InLimits v.line × Separates v.line p)
+      → v.doorways ≡ length ks → length ks ≤ length xs → ys ≡ over ks xs → Witnessed w shut a b f o (Ok v) xs ys
+  witness_found v ks ys h t separates count l e = subst (λ (g : Option Refusal). Witnessed w shut a b f g (Ok v) xs ys) (sym h) (record {
+    doorways = ks;
+    path = t.0;
+    first_walk = t.1;
+    line = t.2;
+    separates = separates t.0 t.2;
+    count = count;
+    written = e ∙ over_all ks xs l;
+  })

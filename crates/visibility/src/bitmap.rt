@@ -1,0 +1,73 @@
+// A table as a raw PBM bitmap.
+ghost use Rattle.std.specs.Prelude.{◌≡◌, ◌≤◌, ◌++◌, length, take, drop, IfOk, MatchResult};
+ghost use Rattle.visibility.specs.Bitmaps.{heading, bitmap, no_bitmap, Pbm};
+ghost use Rattle.visibility.specs.Limits.{most_rooms};
+ghost use Rattle.visibility.specs.States.{state_of, ByGround};
+ghost use Rattle.visibility.specs.Worlds.{world};
+
+use crate::refusal::Refusal;
+use crate::table::Table;
+use maps::map::Map;
+use stabbing::stabber::Stabber;
+
+// The longest heading is that of 256 rooms.
+const HEADING: usize = 11;
+
+// The bytes of a heading, and how many of them there are.
+#[derive(Clone, Copy)]
+struct Heading {
+    bytes: [u8; HEADING],
+    len: usize,
+}
+
+impl Heading {
+    // The heading of a bitmap of n by n pixels.
+    fn new(n: usize) -> Heading
+        requires { n ≤ most_rooms }
+        ensures value { take result.len result.bytes ≡ heading n }
+        ensures long { result.len ≡ length (heading n) }
+        ensures bound { result.len ≤ 11 }
+    {
+        let a = b'0' + (n / 100) as u8;
+        let b = b'0' + (n / 10 % 10) as u8;
+        let c = b'0' + (n % 10) as u8;
+        if n < 10 {
+            Heading {
+                bytes: [b'P', b'4', b'\n', c, b' ', c, b'\n', 0, 0, 0, 0],
+                len: 7,
+            }
+        } else if n < 100 {
+            Heading {
+                bytes: [b'P', b'4', b'\n', b, c, b' ', b, c, b'\n', 0, 0],
+                len: 9,
+            }
+        } else {
+            Heading {
+                bytes: [b'P', b'4', b'\n', a, b, c, b' ', a, b, c, b'\n'],
+                len: 11,
+            }
+        }
+    }
+}
+
+impl<M: Map, S: Stabber> Table<M, S> {
+    // Writes the rows as a bitmap to the front of the space, and answers how many bytes it has.
+    pub fn bitmap(&self, space: &mut [u8]) -> Result<usize, Refusal>
+        ensures value { ByGround (no_bitmap (world (M.Map.rooms self.now.map) (M.Map.doorways self.now.map) (S.Stabber.lets self.now.stabber)) (state_of self.now) (length space.old)) result (state_of self.now) (state_of self.now) (λ len. len ≡ length (bitmap (M.Map.rooms self.now.map) (state_of self.now).shows)) }
+        ensures after { MatchResult result (λ len. space.new ≡ bitmap (M.Map.rooms self.now.map) (state_of self.now).shows ++ drop len space.old) (λ _. space.new ≡ space.old) }
+        ensures format { IfOk result (λ len. Pbm (M.Map.rooms self.now.map) (state_of self.now).shows (take len space.new)) }
+    {
+        let n = self.map.room_count();
+        if !self.rows.all_filled(n) {
+            return Err(Refusal::NotFilled);
+        }
+        let heading = Heading::new(n);
+        let len = heading.len + n * ((n + 7) / 8);
+        if space.len() < len {
+            return Err(Refusal::SpaceTooShort);
+        }
+        space[0..heading.len].copy_from_slice(&heading.bytes[0..heading.len]);
+        self.rows.write(n, &mut space[heading.len..len]);
+        Ok(len)
+    }
+}

@@ -1,0 +1,74 @@
+// Witnesses: the first walk between two rooms that has a line.
+ghost use Rattle.std.specs.Prelude.{◌≡◌, ◌<◌, ◌≤◌, [], length, take, is_some, if◌then◌else◌, ◌≢◌};
+ghost use Rattle.visibility.specs.Orders.{InOrder};
+ghost use Rattle.visibility.specs.Questions.{due, asked_all};
+ghost use Rattle.visibility.specs.Sets.{marks, only};
+ghost use Rattle.visibility.specs.States.{state_of};
+ghost use Rattle.visibility.specs.Witnesses.{leads, ahead, until, no_witness, Told, Witnessed};
+ghost use Rattle.visibility.specs.Worlds.{world};
+
+use crate::copying::copy;
+use crate::quest::Quest;
+use crate::refusal::Refusal;
+use crate::search::search_from;
+use crate::sightline::Sightline;
+use crate::table::Table;
+use maps::doorway::Room;
+use maps::map::Map;
+use stabbing::stabber::Sharp;
+
+// The first open walk from a to b that has a line, in the first places of `doors`, and the line; no line where there is no such walk.
+fn first_walk<M: Map, S: Sharp>(map: &M, stabber: &mut S, shut: &[bool], a: Room, b: Room) -> Quest
+    requires shut { length (M.Map.doorways map.now) ≤ length shut.now }
+    requires room { a < M.Map.rooms map.now }
+    requires apart { a ≢ b }
+    ensures value { Told (world (M.Map.rooms map.now) (M.Map.doorways map.now) (S.Stabber.lets stabber.old)) (marks shut.now) a b (S.Sharp.line (asked_all S.Sharp.lined stabber.old (ahead (leads (world (M.Map.rooms map.now) (M.Map.doorways map.now) (S.Stabber.lets stabber.old)) b) (due (world (M.Map.rooms map.now) (M.Map.doorways map.now) (S.Stabber.lets stabber.old)) (marks shut.now) (only a) a [] [])))) result.line (take result.count result.doors) }
+    ensures count { (result.count < M.Map.rooms map.now) × (length result.doors ≡ 256) }
+    ensures asked { stabber.new ≡ asked_all S.Sharp.lined stabber.old (until (leads (world (M.Map.rooms map.now) (M.Map.doorways map.now) (S.Stabber.lets stabber.old)) b) (due (world (M.Map.rooms map.now) (M.Map.doorways map.now) (S.Stabber.lets stabber.old)) (marks shut.now) (only a) a [] [])) }
+    ensures lets { S.Stabber.lets stabber.new ≡ S.Stabber.lets stabber.old }
+{
+    let mut quest = Quest::new(b);
+    search_from(map, stabber, &mut quest, shut, a);
+    quest
+}
+
+impl<M: Map, S: Sharp> Table<M, S> {
+    // Writes the doorways of the first open walk from a to b that has a line into the space, and answers how many these are, and
+    // the line. The questions go in dictionary order of the walks, and end with the walk that is found.
+    pub fn witness(&mut self, a: usize, b: usize, space: &mut [usize]) -> Result<Sightline, Refusal>
+        ensures value { Witnessed (world (M.Map.rooms self.old.map) (M.Map.doorways self.old.map) (S.Stabber.lets self.old.stabber)) (marks self.old.closed) a b (S.Sharp.line (asked_all S.Sharp.lined self.old.stabber (ahead (leads (world (M.Map.rooms self.old.map) (M.Map.doorways self.old.map) (S.Stabber.lets self.old.stabber)) b) (due (world (M.Map.rooms self.old.map) (M.Map.doorways self.old.map) (S.Stabber.lets self.old.stabber)) (marks self.old.closed) (only a) a [] [])))) (no_witness (world (M.Map.rooms self.old.map) (M.Map.doorways self.old.map) (S.Stabber.lets self.old.stabber)) a b (length space.old)) result space.old space.new }
+        ensures asked { self.new.stabber ≡ (if is_some (no_witness (world (M.Map.rooms self.old.map) (M.Map.doorways self.old.map) (S.Stabber.lets self.old.stabber)) a b (length space.old)) then self.old.stabber else asked_all S.Sharp.lined self.old.stabber (until (leads (world (M.Map.rooms self.old.map) (M.Map.doorways self.old.map) (S.Stabber.lets self.old.stabber)) b) (due (world (M.Map.rooms self.old.map) (M.Map.doorways self.old.map) (S.Stabber.lets self.old.stabber)) (marks self.old.closed) (only a) a [] []))) }
+        ensures order { InOrder (world (M.Map.rooms self.old.map) (M.Map.doorways self.old.map) (S.Stabber.lets self.old.stabber)) (marks self.old.closed) a (due (world (M.Map.rooms self.old.map) (M.Map.doorways self.old.map) (S.Stabber.lets self.old.stabber)) (marks self.old.closed) (only a) a [] []) }
+        ensures same { state_of self.new ≡ state_of self.old }
+        ensures map { self.new.map ≡ self.old.map }
+        ensures lets { S.Stabber.lets self.new.stabber ≡ S.Stabber.lets self.old.stabber }
+    {
+        let rooms = self.map.room_count();
+        if a >= rooms || b >= rooms {
+            return Err(Refusal::NoSuchRoom);
+        }
+        if a == b {
+            return Err(Refusal::SameRoomTwice);
+        }
+        if space.len() < rooms - 1 {
+            return Err(Refusal::SpaceTooShort);
+        }
+        let quest = first_walk(
+            &self.map,
+            &mut self.stabber,
+            &self.closed,
+            a as Room,
+            b as Room,
+        );
+        match quest.line {
+            Some(line) => {
+                copy(&quest.doors[0..quest.count], space);
+                Ok(Sightline {
+                    line,
+                    doorways: quest.count,
+                })
+            }
+            None => Err(Refusal::NoLine),
+        }
+    }
+}
