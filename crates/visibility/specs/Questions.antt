@@ -6,6 +6,7 @@
 --   rest w shut n ..  the questions after the walk (ks, p) that entered the rooms e and reached a, for walks of at most n
 --                     doorways more
 --   due w shut ..     the same for walks of any length
+--   walks_from w shut a  those of a search from the room a
 --   asked_all f s ts  how a stabber s stands after the questions ts, where f tells that of one question
 --   visited ..        how a stabber and a visitor stand after the visitor was told of a walk, unless it had ended
 --   toured ..         the same after the walks ts
@@ -13,7 +14,7 @@
 use Rattle.std.specs.Prelude.{ℕ, zero, suc, Bool, cond, List, [], ◌∷◌, ◌++◌, length, Some, None, fold, Option}
 use Rattle.std.specs.List.{range_with_len, flat_map}
 use Rattle.plane.specs.declared.quad.Quad.{Quad}
-use Rattle.visibility.specs.Sets.{Numbers, with, free}
+use Rattle.visibility.specs.Sets.{Numbers, only, with, free}
 use Rattle.visibility.specs.Worlds.{World}
 use Rattle.visibility.specs.Steps.{onward}
 use Rattle.visibility.specs.Trips.{Trip}
@@ -36,6 +37,9 @@ rest w shut (suc n) e a ks p = tries w shut (rest w shut n) e a ks p (length w.d
 
 abbrev pub due : World → Numbers → Rest
 due w shut e a ks p = tries w shut (rest w shut (free w.rooms e)) e a ks p (length w.doorways)
+
+abbrev pub walks_from : World → Numbers → ℕ → List Trip
+walks_from w shut a = due w shut (only a) a [] []
 
 abbrev pub asked_all : {S : Type 0} → (S → List Quad → S) → S → List Trip → S
 asked_all f s ts = fold (λ s t. f s t.path) s ts

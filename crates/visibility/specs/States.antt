@@ -1,6 +1,7 @@
 -- What a table holds, and what each call on it may do.
 --   State              the doorways that are shut, the rooms whose rows are filled, and what each row shows
 --   state_of t         what the table t holds
+--   world_of m s t     the world of the table t, where m and s are what the types of its map and its stabber mean
 --   place s k v        the set s, but with k in it or not as v says
 --   ByGround ..       where a ground of refusal applies, the call answers it and changes nothing; else it is granted, and
 --                      P holds of its answer
@@ -14,12 +15,14 @@ use Rattle.std.specs.Prelude.{◌≡◌, ℕ, ◌<◌, Bool, cond, length, Some,
 use Rattle.std.specs.Bool.{beq}
 use Rattle.std.specs.List.{slice_get}
 use Rattle.maps.specs.declared.doorway.Doorway.{Doorway}
+use Rattle.maps.specs.declared.map.Map.{Ghosts as MapMeaning}
+use Rattle.stabbing.specs.declared.stabber.Stabber.{Ghosts as StabberMeaning}
 use Rattle.visibility.specs.declared.refusal.Refusal.{Refusal}
 use Rattle.visibility.specs.declared.refusal.Refusal.TheVariants.{NoSuchRoom, NotFilled, NoSuchDoorway, Already}
 use Rattle.visibility.specs.declared.table.Table.{Table}
 use Rattle.visibility.specs.Sets.{Numbers, marks, with, without, both, number, Exactly}
 use Rattle.visibility.specs.Sights.{sight, touches}
-use Rattle.visibility.specs.Worlds.{World}
+use Rattle.visibility.specs.Worlds.{World, meant}
 use Rattle.visibility.specs.Walks.{TrueRow}
 
 pub record State : Type 0 where
@@ -29,6 +32,9 @@ pub record State : Type 0 where
 
 abbrev pub state_of : {M S : Type 0} → Table M S → State
 state_of t = record { shut = marks t.closed; filled = marks t.rows.filled; shows = sight t.rows.rows }
+
+abbrev pub world_of : {M S : Type 0} → MapMeaning M → StabberMeaning S → Table M S → World
+world_of m s t = meant m s t.map t.stabber
 
 abbrev pub place : Numbers → ℕ → Bool → Numbers
 place s k v x = cond (x == k) v (s x)

@@ -2,8 +2,7 @@
 ghost use Rattle.std.specs.Prelude.{◌≡◌, ◌≤◌, ◌++◌, length, take, drop, IfOk, MatchResult};
 ghost use Rattle.visibility.specs.Bitmaps.{heading, bitmap, no_bitmap, Pbm};
 ghost use Rattle.visibility.specs.Limits.{most_rooms};
-ghost use Rattle.visibility.specs.States.{state_of, ByGround};
-ghost use Rattle.visibility.specs.Worlds.{world};
+ghost use Rattle.visibility.specs.States.{world_of, state_of, ByGround};
 
 use crate::refusal::Refusal;
 use crate::table::Table;
@@ -53,7 +52,7 @@ impl Heading {
 impl<M: Map, S: Stabber> Table<M, S> {
     // Writes the rows as a bitmap to the front of the space, and answers how many bytes it has.
     pub fn bitmap(&self, space: &mut [u8]) -> Result<usize, Refusal>
-        ensures value { ByGround (no_bitmap (world (M.Map.rooms self.now.map) (M.Map.doorways self.now.map) (S.Stabber.lets self.now.stabber)) (state_of self.now) (length space.old)) result (state_of self.now) (state_of self.now) (λ len. len ≡ length (bitmap (M.Map.rooms self.now.map) (state_of self.now).shows)) }
+        ensures value { ByGround (no_bitmap (world_of M.Map S.Stabber self.now) (state_of self.now) (length space.old)) result (state_of self.now) (state_of self.now) (λ len. len ≡ length (bitmap (M.Map.rooms self.now.map) (state_of self.now).shows)) }
         ensures after { MatchResult result (λ len. space.new ≡ bitmap (M.Map.rooms self.now.map) (state_of self.now).shows ++ drop len space.old) (λ _. space.new ≡ space.old) }
         ensures format { IfOk result (λ len. Pbm (M.Map.rooms self.now.map) (state_of self.now).shows (take len space.new)) }
     {

@@ -2,10 +2,9 @@
 ghost use Rattle.std.specs.Prelude.{◌≡◌, ℕ, Bool, true, false, [], length, if◌then◌else◌, nat_lt};
 ghost use Rattle.visibility.specs.Limits.{most_doorways};
 ghost use Rattle.visibility.specs.Orders.{InOrder};
-ghost use Rattle.visibility.specs.Questions.{due, asked_all};
-ghost use Rattle.visibility.specs.Sets.{none, only, marks};
-ghost use Rattle.visibility.specs.States.{state_of, ByGround, no_room, no_sight, no_turn, Fills, Turns};
-ghost use Rattle.visibility.specs.Worlds.{world};
+ghost use Rattle.visibility.specs.Questions.{walks_from, asked_all};
+ghost use Rattle.visibility.specs.Sets.{none, marks};
+ghost use Rattle.visibility.specs.States.{world_of, state_of, ByGround, no_room, no_sight, no_turn, Fills, Turns};
 
 use crate::fill::true_row;
 use crate::refusal::Refusal;
@@ -43,9 +42,9 @@ impl<M: Map, S: Stabber> Table<M, S> {
 
     // Fills row a, and answers how many rooms it shows. The questions go in dictionary order of the walks.
     pub fn fill(&mut self, a: usize) -> Result<usize, Refusal>
-        ensures value { ByGround (no_room (world (M.Map.rooms self.old.map) (M.Map.doorways self.old.map) (S.Stabber.lets self.old.stabber)) a) result (state_of self.old) (state_of self.new) (Fills (world (M.Map.rooms self.old.map) (M.Map.doorways self.old.map) (S.Stabber.lets self.old.stabber)) (state_of self.old) a (state_of self.new)) }
-        ensures asked { self.new.stabber ≡ (if nat_lt a (M.Map.rooms self.old.map) then asked_all S.Stabber.asked self.old.stabber (due (world (M.Map.rooms self.old.map) (M.Map.doorways self.old.map) (S.Stabber.lets self.old.stabber)) (marks self.old.closed) (only a) a [] []) else self.old.stabber) }
-        ensures order { InOrder (world (M.Map.rooms self.old.map) (M.Map.doorways self.old.map) (S.Stabber.lets self.old.stabber)) (marks self.old.closed) a (due (world (M.Map.rooms self.old.map) (M.Map.doorways self.old.map) (S.Stabber.lets self.old.stabber)) (marks self.old.closed) (only a) a [] []) }
+        ensures value { ByGround (no_room (world_of M.Map S.Stabber self.old) a) result (state_of self.old) (state_of self.new) (Fills (world_of M.Map S.Stabber self.old) (state_of self.old) a (state_of self.new)) }
+        ensures asked { self.new.stabber ≡ (if nat_lt a (M.Map.rooms self.old.map) then asked_all S.Stabber.asked self.old.stabber (walks_from (world_of M.Map S.Stabber self.old) (marks self.old.closed) a) else self.old.stabber) }
+        ensures order { InOrder (world_of M.Map S.Stabber self.old) (marks self.old.closed) a (walks_from (world_of M.Map S.Stabber self.old) (marks self.old.closed) a) }
         ensures map { self.new.map ≡ self.old.map }
         ensures lets { S.Stabber.lets self.new.stabber ≡ S.Stabber.lets self.old.stabber }
     {
@@ -59,7 +58,7 @@ impl<M: Map, S: Stabber> Table<M, S> {
 
     // Whether row a shows room b.
     pub fn shows(&self, a: usize, b: usize) -> Result<bool, Refusal>
-        ensures { ByGround (no_sight (world (M.Map.rooms self.now.map) (M.Map.doorways self.now.map) (S.Stabber.lets self.now.stabber)) (state_of self.now) a b) result (state_of self.now) (state_of self.now) (λ y. y ≡ (state_of self.now).shows a b) }
+        ensures { ByGround (no_sight (world_of M.Map S.Stabber self.now) (state_of self.now) a b) result (state_of self.now) (state_of self.now) (λ y. y ≡ (state_of self.now).shows a b) }
     {
         let rooms = self.map.room_count();
         if a >= rooms || b >= rooms {
@@ -73,7 +72,7 @@ impl<M: Map, S: Stabber> Table<M, S> {
 
     // Shuts or opens doorway k, and answers how many rows are filled no more.
     fn turn(&mut self, k: usize, v: bool) -> Result<usize, Refusal>
-        ensures value { ByGround (no_turn (world (M.Map.rooms self.old.map) (M.Map.doorways self.old.map) (S.Stabber.lets self.old.stabber)) (state_of self.old) k v) result (state_of self.old) (state_of self.new) (Turns (world (M.Map.rooms self.old.map) (M.Map.doorways self.old.map) (S.Stabber.lets self.old.stabber)) (state_of self.old) k v (state_of self.new)) }
+        ensures value { ByGround (no_turn (world_of M.Map S.Stabber self.old) (state_of self.old) k v) result (state_of self.old) (state_of self.new) (Turns (world_of M.Map S.Stabber self.old) (state_of self.old) k v (state_of self.new)) }
         ensures owns { (self.new.map ≡ self.old.map) × (self.new.stabber ≡ self.old.stabber) }
     {
         let rooms = self.map.room_count();
@@ -91,7 +90,7 @@ impl<M: Map, S: Stabber> Table<M, S> {
 
     // Shuts doorway k.
     pub fn shut(&mut self, k: usize) -> Result<usize, Refusal>
-        ensures value { ByGround (no_turn (world (M.Map.rooms self.old.map) (M.Map.doorways self.old.map) (S.Stabber.lets self.old.stabber)) (state_of self.old) k true) result (state_of self.old) (state_of self.new) (Turns (world (M.Map.rooms self.old.map) (M.Map.doorways self.old.map) (S.Stabber.lets self.old.stabber)) (state_of self.old) k true (state_of self.new)) }
+        ensures value { ByGround (no_turn (world_of M.Map S.Stabber self.old) (state_of self.old) k true) result (state_of self.old) (state_of self.new) (Turns (world_of M.Map S.Stabber self.old) (state_of self.old) k true (state_of self.new)) }
         ensures owns { (self.new.map ≡ self.old.map) × (self.new.stabber ≡ self.old.stabber) }
     {
         self.turn(k, true)
@@ -99,7 +98,7 @@ impl<M: Map, S: Stabber> Table<M, S> {
 
     // Opens doorway k.
     pub fn open(&mut self, k: usize) -> Result<usize, Refusal>
-        ensures value { ByGround (no_turn (world (M.Map.rooms self.old.map) (M.Map.doorways self.old.map) (S.Stabber.lets self.old.stabber)) (state_of self.old) k false) result (state_of self.old) (state_of self.new) (Turns (world (M.Map.rooms self.old.map) (M.Map.doorways self.old.map) (S.Stabber.lets self.old.stabber)) (state_of self.old) k false (state_of self.new)) }
+        ensures value { ByGround (no_turn (world_of M.Map S.Stabber self.old) (state_of self.old) k false) result (state_of self.old) (state_of self.new) (Turns (world_of M.Map S.Stabber self.old) (state_of self.old) k false (state_of self.new)) }
         ensures owns { (self.new.map ≡ self.old.map) × (self.new.stabber ≡ self.old.stabber) }
     {
         self.turn(k, false)

@@ -1,7 +1,6 @@
 // Tables as desks: over any stabber without witnesses, over a sharp one with them.
 ghost use Rattle.std.specs.Prelude.{◌≡◌, true, false};
-ghost use Rattle.visibility.specs.States.{state_of};
-ghost use Rattle.visibility.specs.Worlds.{world};
+ghost use Rattle.visibility.specs.States.{world_of, state_of};
 
 use crate::desk::Desk;
 use crate::order::Order;
@@ -10,7 +9,7 @@ use maps::map::Map;
 use stabbing::stabber::{Sharp, Stabber};
 
 impl<M: Map, S: Stabber> Desk for Table<M, S> {
-    ghost world = { λ t. world (M.Map.rooms t.map) (M.Map.doorways t.map) (S.Stabber.lets t.stabber) };
+    ghost world = { λ t. world_of M.Map S.Stabber t };
 
     ghost state = { λ t. state_of t };
 
@@ -28,7 +27,7 @@ pub(crate) struct Lined<M, S> {
 }
 
 impl<M: Map, S: Sharp> Desk for Lined<M, S> {
-    ghost world = { λ t. world (M.Map.rooms t.table.map) (M.Map.doorways t.table.map) (S.Stabber.lets t.table.stabber) };
+    ghost world = { λ t. world_of M.Map S.Stabber t.table };
 
     ghost state = { λ t. state_of t.table };
 

@@ -1,9 +1,9 @@
 // One row, filled.
 ghost use Rattle.std.specs.Prelude.{◌≡◌, ℕ, ◌<◌, ◌≤◌, false, [], length, if◌then◌else◌};
-ghost use Rattle.visibility.specs.Sets.{marks, Exactly, only};
-ghost use Rattle.visibility.specs.Worlds.{world};
+ghost use Rattle.visibility.specs.Sets.{marks, Exactly};
+ghost use Rattle.visibility.specs.Worlds.{meant};
 ghost use Rattle.visibility.specs.Walks.{TrueRow};
-ghost use Rattle.visibility.specs.Questions.{due, asked_all};
+ghost use Rattle.visibility.specs.Questions.{walks_from, asked_all};
 ghost use Rattle.visibility.specs.Bits.{shown, marked};
 ghost use Rattle.std.proofs.Common.{rules};
 
@@ -44,8 +44,8 @@ impl<S: Stabber> Visitor<S> for Row {
 pub(crate) fn true_row<M: Map, S: Stabber>(map: &M, stabber: &mut S, shut: &[bool], a: Room) -> Row
     requires shut { length (M.Map.doorways map.now) ≤ length shut.now }
     requires room { a < M.Map.rooms map.now }
-    ensures value { Exactly (shown result.bytes) (TrueRow (world (M.Map.rooms map.now) (M.Map.doorways map.now) (S.Stabber.lets stabber.old)) (marks shut.now) a) }
-    ensures asked { stabber.new ≡ asked_all S.Stabber.asked stabber.old (due (world (M.Map.rooms map.now) (M.Map.doorways map.now) (S.Stabber.lets stabber.old)) (marks shut.now) (only a) a [] []) }
+    ensures value { Exactly (shown result.bytes) (TrueRow (meant M.Map S.Stabber map.now stabber.old) (marks shut.now) a) }
+    ensures asked { stabber.new ≡ asked_all S.Stabber.asked stabber.old (walks_from (meant M.Map S.Stabber map.now stabber.old) (marks shut.now) a) }
     ensures lets { S.Stabber.lets stabber.new ≡ S.Stabber.lets stabber.old }
 {
     let mut row = Row::new();

@@ -4,8 +4,7 @@ ghost use Rattle.visibility.specs.declared.call.Call.{Call};
 ghost use Rattle.visibility.specs.Calls.{Answered};
 ghost use Rattle.visibility.specs.Histories.{Stands};
 ghost use Rattle.visibility.specs.Replies.{Replied};
-ghost use Rattle.visibility.specs.States.{state_of};
-ghost use Rattle.visibility.specs.Worlds.{world};
+ghost use Rattle.visibility.specs.States.{world_of, state_of};
 
 use crate::call::{Answer, Call};
 use crate::refusal::Refusal;
@@ -16,8 +15,8 @@ use stabbing::stabber::{Sharp, Stabber};
 impl<M: Map, S: Stabber> Table<M, S> {
     // One call, after any history that the table stands for. The bytes are space for a bitmap. A witness is not to be had here.
     pub fn reply(&mut self, call: Call, bytes: &mut [u8]) -> Result<Answer, Refusal>
-        ensures value { (h : List Call) → Stands (world (M.Map.rooms self.old.map) (M.Map.doorways self.old.map) (S.Stabber.lets self.old.stabber)) h (state_of self.old) → (xs : List ℕ) → Replied false (world (M.Map.rooms self.old.map) (M.Map.doorways self.old.map) (S.Stabber.lets self.old.stabber)) h call result (record { doorways = xs; bytes = bytes.old }) (record { doorways = xs; bytes = bytes.new }) }
-        ensures after { (h : List Call) → Stands (world (M.Map.rooms self.old.map) (M.Map.doorways self.old.map) (S.Stabber.lets self.old.stabber)) h (state_of self.old) → Stands (world (M.Map.rooms self.old.map) (M.Map.doorways self.old.map) (S.Stabber.lets self.old.stabber)) (call ∷ h) (state_of self.new) }
+        ensures value { (h : List Call) → Stands (world_of M.Map S.Stabber self.old) h (state_of self.old) → (xs : List ℕ) → Replied false (world_of M.Map S.Stabber self.old) h call result (record { doorways = xs; bytes = bytes.old }) (record { doorways = xs; bytes = bytes.new }) }
+        ensures after { (h : List Call) → Stands (world_of M.Map S.Stabber self.old) h (state_of self.old) → Stands (world_of M.Map S.Stabber self.old) (call ∷ h) (state_of self.new) }
         ensures map { self.new.map ≡ self.old.map }
         ensures lets { S.Stabber.lets self.new.stabber ≡ S.Stabber.lets self.old.stabber }
     {
@@ -33,8 +32,8 @@ impl<M: Map, S: Stabber> Table<M, S> {
 
     // The same with no space for a bitmap.
     pub fn answer(&mut self, call: Call) -> Result<Answer, Refusal>
-        ensures value { (h : List Call) → Stands (world (M.Map.rooms self.old.map) (M.Map.doorways self.old.map) (S.Stabber.lets self.old.stabber)) h (state_of self.old) → Answered (world (M.Map.rooms self.old.map) (M.Map.doorways self.old.map) (S.Stabber.lets self.old.stabber)) h call result }
-        ensures after { (h : List Call) → Stands (world (M.Map.rooms self.old.map) (M.Map.doorways self.old.map) (S.Stabber.lets self.old.stabber)) h (state_of self.old) → Stands (world (M.Map.rooms self.old.map) (M.Map.doorways self.old.map) (S.Stabber.lets self.old.stabber)) (call ∷ h) (state_of self.new) }
+        ensures value { (h : List Call) → Stands (world_of M.Map S.Stabber self.old) h (state_of self.old) → Answered (world_of M.Map S.Stabber self.old) h call result }
+        ensures after { (h : List Call) → Stands (world_of M.Map S.Stabber self.old) h (state_of self.old) → Stands (world_of M.Map S.Stabber self.old) (call ∷ h) (state_of self.new) }
         ensures map { self.new.map ≡ self.old.map }
         ensures lets { S.Stabber.lets self.new.stabber ≡ S.Stabber.lets self.old.stabber }
     {
@@ -50,8 +49,8 @@ impl<M: Map, S: Sharp> Table<M, S> {
         doorways: &mut [usize],
         bytes: &mut [u8],
     ) -> Result<Answer, Refusal>
-        ensures value { (h : List Call) → Stands (world (M.Map.rooms self.old.map) (M.Map.doorways self.old.map) (S.Stabber.lets self.old.stabber)) h (state_of self.old) → Replied true (world (M.Map.rooms self.old.map) (M.Map.doorways self.old.map) (S.Stabber.lets self.old.stabber)) h call result (record { doorways = doorways.entry.now; bytes = bytes.old }) (record { doorways = doorways.exit.now; bytes = bytes.new }) }
-        ensures after { (h : List Call) → Stands (world (M.Map.rooms self.old.map) (M.Map.doorways self.old.map) (S.Stabber.lets self.old.stabber)) h (state_of self.old) → Stands (world (M.Map.rooms self.old.map) (M.Map.doorways self.old.map) (S.Stabber.lets self.old.stabber)) (call ∷ h) (state_of self.new) }
+        ensures value { (h : List Call) → Stands (world_of M.Map S.Stabber self.old) h (state_of self.old) → Replied true (world_of M.Map S.Stabber self.old) h call result (record { doorways = doorways.entry.now; bytes = bytes.old }) (record { doorways = doorways.exit.now; bytes = bytes.new }) }
+        ensures after { (h : List Call) → Stands (world_of M.Map S.Stabber self.old) h (state_of self.old) → Stands (world_of M.Map S.Stabber self.old) (call ∷ h) (state_of self.new) }
         ensures map { self.new.map ≡ self.old.map }
         ensures lets { S.Stabber.lets self.new.stabber ≡ S.Stabber.lets self.old.stabber }
     {

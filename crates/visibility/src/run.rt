@@ -6,7 +6,7 @@ ghost use Rattle.visibility.specs.Histories.{Stands, shut_after, SeenAfter};
 ghost use Rattle.visibility.specs.Portals.{Sees};
 ghost use Rattle.visibility.specs.Replies.{Answered, calls_of};
 ghost use Rattle.visibility.specs.States.{state_of};
-ghost use Rattle.visibility.specs.Worlds.{world};
+ghost use Rattle.visibility.specs.Worlds.{meant};
 
 use crate::desk::Desk;
 use crate::desks::Lined;
@@ -30,9 +30,9 @@ fn serve_all<D: Desk>(desk: &mut D, orders: &mut [Order])
 // The orders one after the other on a fresh table. Every order is answered as the calls before it say, the table then stands for all of
 // them, the latest first, and no room that is visible is missing from a true row. Over any stabber, without witnesses.
 pub fn run<M: Map, S: Stabber>(map: M, stabber: S, orders: &mut [Order]) -> Table<M, S>
-    ensures answered { (i : ℕ) → i < length orders.old → HoldsAt (λ o. HoldsAt (λ p. Answered false (world (M.Map.rooms map) (M.Map.doorways map) (S.Stabber.lets stabber)) (reverse (take i (calls_of orders.old))) o p) orders.new i) orders.old i }
-    ensures stands { Stands (world (M.Map.rooms map) (M.Map.doorways map) (S.Stabber.lets stabber)) (reverse (calls_of orders.old)) (state_of result) }
-    ensures complete { (h : List Call) (a b : ℕ) → Sees (world (M.Map.rooms map) (M.Map.doorways map) (S.Stabber.lets stabber)) (shut_after (world (M.Map.rooms map) (M.Map.doorways map) (S.Stabber.lets stabber)) h) a b → SeenAfter (world (M.Map.rooms map) (M.Map.doorways map) (S.Stabber.lets stabber)) h a b }
+    ensures answered { (i : ℕ) → i < length orders.old → HoldsAt (λ o. HoldsAt (λ p. Answered false (meant M.Map S.Stabber map stabber) (reverse (take i (calls_of orders.old))) o p) orders.new i) orders.old i }
+    ensures stands { Stands (meant M.Map S.Stabber map stabber) (reverse (calls_of orders.old)) (state_of result) }
+    ensures complete { (h : List Call) (a b : ℕ) → Sees (meant M.Map S.Stabber map stabber) (shut_after (meant M.Map S.Stabber map stabber) h) a b → SeenAfter (meant M.Map S.Stabber map stabber) h a b }
 {
     let mut table = Table::new(map, stabber);
     serve_all(&mut table, orders);
@@ -41,10 +41,10 @@ pub fn run<M: Map, S: Stabber>(map: M, stabber: S, orders: &mut [Order]) -> Tabl
 
 // The same over any sharp stabber, with witnesses: a true row has exactly the rooms that are visible.
 pub fn run_sharp<M: Map, S: Sharp>(map: M, stabber: S, orders: &mut [Order]) -> Table<M, S>
-    ensures answered { (i : ℕ) → i < length orders.old → HoldsAt (λ o. HoldsAt (λ p. Answered true (world (M.Map.rooms map) (M.Map.doorways map) (S.Stabber.lets stabber)) (reverse (take i (calls_of orders.old))) o p) orders.new i) orders.old i }
-    ensures stands { Stands (world (M.Map.rooms map) (M.Map.doorways map) (S.Stabber.lets stabber)) (reverse (calls_of orders.old)) (state_of result) }
-    ensures complete { (h : List Call) (a b : ℕ) → Sees (world (M.Map.rooms map) (M.Map.doorways map) (S.Stabber.lets stabber)) (shut_after (world (M.Map.rooms map) (M.Map.doorways map) (S.Stabber.lets stabber)) h) a b → SeenAfter (world (M.Map.rooms map) (M.Map.doorways map) (S.Stabber.lets stabber)) h a b }
-    ensures sharp { (h : List Call) (a b : ℕ) → SeenAfter (world (M.Map.rooms map) (M.Map.doorways map) (S.Stabber.lets stabber)) h a b → Sees (world (M.Map.rooms map) (M.Map.doorways map) (S.Stabber.lets stabber)) (shut_after (world (M.Map.rooms map) (M.Map.doorways map) (S.Stabber.lets stabber)) h) a b }
+    ensures answered { (i : ℕ) → i < length orders.old → HoldsAt (λ o. HoldsAt (λ p. Answered true (meant M.Map S.Stabber map stabber) (reverse (take i (calls_of orders.old))) o p) orders.new i) orders.old i }
+    ensures stands { Stands (meant M.Map S.Stabber map stabber) (reverse (calls_of orders.old)) (state_of result) }
+    ensures complete { (h : List Call) (a b : ℕ) → Sees (meant M.Map S.Stabber map stabber) (shut_after (meant M.Map S.Stabber map stabber) h) a b → SeenAfter (meant M.Map S.Stabber map stabber) h a b }
+    ensures sharp { (h : List Call) (a b : ℕ) → SeenAfter (meant M.Map S.Stabber map stabber) h a b → Sees (meant M.Map S.Stabber map stabber) (shut_after (meant M.Map S.Stabber map stabber) h) a b }
 {
     let mut desk = Lined {
         table: Table::new(map, stabber),

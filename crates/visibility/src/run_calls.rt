@@ -6,7 +6,7 @@ ghost use Rattle.visibility.specs.Calls.{Answered};
 ghost use Rattle.visibility.specs.Histories.{Stands, shut_after, SeenAfter};
 ghost use Rattle.visibility.specs.States.{state_of};
 ghost use Rattle.visibility.specs.Walks.{Lined};
-ghost use Rattle.visibility.specs.Worlds.{world};
+ghost use Rattle.visibility.specs.Worlds.{meant};
 
 use crate::call::{Answer, Call};
 use crate::refusal::Refusal;
@@ -22,10 +22,10 @@ pub fn run_calls<M: Map, S: Stabber>(
     calls: &[Call],
     answers: &mut [Result<Answer, Refusal>],
 ) -> Table<M, S>
-    ensures answered { (i : ℕ) → i < min (length calls.now) (length answers.old) → HoldsAt (λ call. HoldsAt (λ a. Answered (world (M.Map.rooms map) (M.Map.doorways map) (S.Stabber.lets stabber)) (reverse (take i calls.now)) call a) answers.new i) calls.now i }
+    ensures answered { (i : ℕ) → i < min (length calls.now) (length answers.old) → HoldsAt (λ call. HoldsAt (λ a. Answered (meant M.Map S.Stabber map stabber) (reverse (take i calls.now)) call a) answers.new i) calls.now i }
     ensures rest { drop (min (length calls.now) (length answers.old)) answers.new ≡ drop (min (length calls.now) (length answers.old)) answers.old }
-    ensures stands { Stands (world (M.Map.rooms map) (M.Map.doorways map) (S.Stabber.lets stabber)) (reverse (take (min (length calls.now) (length answers.old)) calls.now)) (state_of result) }
-    ensures complete { (h : List Call) (a b : ℕ) → Lined (world (M.Map.rooms map) (M.Map.doorways map) (S.Stabber.lets stabber)) (shut_after (world (M.Map.rooms map) (M.Map.doorways map) (S.Stabber.lets stabber)) h) a b → SeenAfter (world (M.Map.rooms map) (M.Map.doorways map) (S.Stabber.lets stabber)) h a b }
+    ensures stands { Stands (meant M.Map S.Stabber map stabber) (reverse (take (min (length calls.now) (length answers.old)) calls.now)) (state_of result) }
+    ensures complete { (h : List Call) (a b : ℕ) → Lined (meant M.Map S.Stabber map stabber) (shut_after (meant M.Map S.Stabber map stabber) h) a b → SeenAfter (meant M.Map S.Stabber map stabber) h a b }
 {
     let mut table = Table::new(map, stabber);
     let count = calls.len().min(answers.len());
@@ -42,11 +42,11 @@ pub fn run_calls_sharp<M: Map, S: Sharp>(
     calls: &[Call],
     answers: &mut [Result<Answer, Refusal>],
 ) -> Table<M, S>
-    ensures answered { (i : ℕ) → i < min (length calls.now) (length answers.old) → HoldsAt (λ call. HoldsAt (λ a. Answered (world (M.Map.rooms map) (M.Map.doorways map) (S.Stabber.lets stabber)) (reverse (take i calls.now)) call a) answers.new i) calls.now i }
+    ensures answered { (i : ℕ) → i < min (length calls.now) (length answers.old) → HoldsAt (λ call. HoldsAt (λ a. Answered (meant M.Map S.Stabber map stabber) (reverse (take i calls.now)) call a) answers.new i) calls.now i }
     ensures rest { drop (min (length calls.now) (length answers.old)) answers.new ≡ drop (min (length calls.now) (length answers.old)) answers.old }
-    ensures stands { Stands (world (M.Map.rooms map) (M.Map.doorways map) (S.Stabber.lets stabber)) (reverse (take (min (length calls.now) (length answers.old)) calls.now)) (state_of result) }
-    ensures complete { (h : List Call) (a b : ℕ) → Lined (world (M.Map.rooms map) (M.Map.doorways map) (S.Stabber.lets stabber)) (shut_after (world (M.Map.rooms map) (M.Map.doorways map) (S.Stabber.lets stabber)) h) a b → SeenAfter (world (M.Map.rooms map) (M.Map.doorways map) (S.Stabber.lets stabber)) h a b }
-    ensures sharp { (h : List Call) (a b : ℕ) → SeenAfter (world (M.Map.rooms map) (M.Map.doorways map) (S.Stabber.lets stabber)) h a b → Lined (world (M.Map.rooms map) (M.Map.doorways map) (S.Stabber.lets stabber)) (shut_after (world (M.Map.rooms map) (M.Map.doorways map) (S.Stabber.lets stabber)) h) a b }
+    ensures stands { Stands (meant M.Map S.Stabber map stabber) (reverse (take (min (length calls.now) (length answers.old)) calls.now)) (state_of result) }
+    ensures complete { (h : List Call) (a b : ℕ) → Lined (meant M.Map S.Stabber map stabber) (shut_after (meant M.Map S.Stabber map stabber) h) a b → SeenAfter (meant M.Map S.Stabber map stabber) h a b }
+    ensures sharp { (h : List Call) (a b : ℕ) → SeenAfter (meant M.Map S.Stabber map stabber) h a b → Lined (meant M.Map S.Stabber map stabber) (shut_after (meant M.Map S.Stabber map stabber) h) a b }
 {
     run_calls(map, stabber, calls, answers)
 }

@@ -1,71 +1,48 @@
 // The search through the walks from a room, in dictionary order.
-ghost use Rattle.std.specs.Prelude.{◌≡◌, ◌+◌, ◌<◌, ◌≤◌, [], length, take};
-ghost use Rattle.visibility.specs.Sets.{marks, free, only};
+ghost use Rattle.std.specs.Prelude.{◌≡◌, ◌+◌, ◌≤◌, length};
+ghost use Rattle.visibility.specs.Sets.{marks, free};
 ghost use Rattle.visibility.specs.Worlds.{world};
-ghost use Rattle.visibility.specs.Indexes.{Indexed};
-ghost use Rattle.visibility.specs.Questions.{due, toured};
+ghost use Rattle.visibility.specs.Questions.{due, walks_from, toured};
 
-use crate::index::Index;
-use crate::row::ROOMS;
-use crate::rows::no_rooms;
+use crate::deck::Deck;
 use crate::step::onward;
+use crate::trail::Trail;
 use crate::visitor::Visitor;
 use maps::doorway::Room;
 use maps::map::Map;
-use plane::quad::Quad;
 
-// Goes on from the walk that reached `here` through the first `depth` of `doors` by the first `depth` crossings of `path`, in every
-// way that is let through, and tells the visitor of each walk until that has ended.
+// Goes on from the trail, which has reached `here`, in every way that is let through, and tells the visitor of each walk until that has
+// ended.
 pub(crate) fn search<M: Map, S, V: Visitor<S>>(
-    map: &M,
-    index: &Index,
+    deck: &Deck<M>,
     stabber: &mut S,
     visitor: &mut V,
-    shut: &[bool],
+    trail: &mut Trail,
     here: Room,
-    depth: usize,
-    entered: &mut [bool],
-    doors: &mut [usize],
-    path: &mut [Quad],
 )
-    requires index { Indexed (M.Map.doorways map.now) index.now }
-    requires shut { length (M.Map.doorways map.now) ≤ length shut.now }
-    requires entered { M.Map.rooms map.now ≤ length entered.old }
-    requires doors { depth + free (M.Map.rooms map.now) (marks entered.old) ≤ length doors.old }
-    requires path { depth + free (M.Map.rooms map.now) (marks entered.old) ≤ length path.old }
-    ensures entered { entered.new ≡ entered.old }
-    ensures doors { take depth doors.new ≡ take depth doors.old }
-    ensures path { take depth path.new ≡ take depth path.old }
+    requires entered { M.Map.rooms deck.now.map.now ≤ length trail.old.entered }
+    requires doors { length trail.old.doors.items + free (M.Map.rooms deck.now.map.now) (marks trail.old.entered) ≤ 256 }
+    requires path { length trail.old.path.items + free (M.Map.rooms deck.now.map.now) (marks trail.old.entered) ≤ 256 }
+    ensures trail { trail.new ≡ trail.old }
     ensures lets { V.Visitor.lets stabber.new ≡ V.Visitor.lets stabber.old }
-    ensures toured { (stabber.new, visitor.new) ≡ toured V.Visitor.heard V.Visitor.told V.Visitor.ended stabber.old visitor.old (due (world (M.Map.rooms map.now) (M.Map.doorways map.now) (V.Visitor.lets stabber.old)) (marks shut.now) (marks entered.old) here (take depth doors.old) (take depth path.old)) }
+    ensures toured { (stabber.new, visitor.new) ≡ toured V.Visitor.heard V.Visitor.told V.Visitor.ended stabber.old visitor.old (due (world (M.Map.rooms deck.now.map.now) (M.Map.doorways deck.now.map.now) (V.Visitor.lets stabber.old)) (marks deck.now.shut.now) (marks trail.old.entered) here trail.old.doors.items trail.old.path.items) }
 {
-    let count = map.doorway_count();
-    let mut k = index.begin(map, here);
+    let count = deck.map.doorway_count();
+    let mut k = deck.index.begin(deck.map, here);
     while k < count {
         if visitor.has_ended() {
             return;
         }
-        if let Some((room, quad)) = onward(map, shut, entered, here, k) {
-            doors[depth] = k;
-            path[depth] = quad;
-            if visitor.visit(stabber, &doors[0..depth + 1], room, &path[0..depth + 1]) {
-                entered[room as usize] = true;
-                search(
-                    map,
-                    index,
-                    stabber,
-                    visitor,
-                    shut,
-                    room,
-                    depth + 1,
-                    entered,
-                    doors,
-                    path,
-                );
-                entered[room as usize] = false;
+        if let Some((room, quad)) = onward(deck.map, deck.shut, &trail.entered, here, k) {
+            trail.step(k, quad);
+            if visitor.visit(stabber, trail.doors.as_slice(), room, trail.path.as_slice()) {
+                trail.entered[room as usize] = true;
+                search(deck, stabber, visitor, trail, room);
+                trail.entered[room as usize] = false;
             }
+            trail.back();
         }
-        k = index.after(map, here, k);
+        k = deck.index.after(deck.map, here, k);
     }
 }
 
@@ -79,28 +56,9 @@ pub(crate) fn search_from<M: Map, S, V: Visitor<S>>(
 )
     requires shut { length (M.Map.doorways map.now) ≤ length shut.now }
     ensures lets { V.Visitor.lets stabber.new ≡ V.Visitor.lets stabber.old }
-    ensures toured { (stabber.new, visitor.new) ≡ toured V.Visitor.heard V.Visitor.told V.Visitor.ended stabber.old visitor.old (due (world (M.Map.rooms map.now) (M.Map.doorways map.now) (V.Visitor.lets stabber.old)) (marks shut.now) (only a) a [] []) }
+    ensures toured { (stabber.new, visitor.new) ≡ toured V.Visitor.heard V.Visitor.told V.Visitor.ended stabber.old visitor.old (walks_from (world (M.Map.rooms map.now) (M.Map.doorways map.now) (V.Visitor.lets stabber.old)) (marks shut.now) a) }
 {
-    let mut entered = no_rooms();
-    entered[a as usize] = true;
-    let mut doors = [0; ROOMS];
-    let mut path = [Quad {
-        lx: 0,
-        ly: 0,
-        rx: 0,
-        ry: 0,
-    }; ROOMS];
-    let index = Index::new(map);
-    search(
-        map,
-        &index,
-        stabber,
-        visitor,
-        shut,
-        a,
-        0,
-        &mut entered,
-        &mut doors,
-        &mut path,
-    );
+    let deck = Deck::new(map, shut);
+    let mut trail = Trail::new(a);
+    search(&deck, stabber, visitor, &mut trail, a);
 }

@@ -12,9 +12,9 @@ pub fn leave(doorway: &Doorway, here: Room) -> Option<(Room, Quad)>
     ensures { result ≡ leave doorway.now here }
 {
     if doorway.near == here {
-        Some((doorway.far, doorway.crossing.quad()))
+        Some((doorway.far, Quad::from(doorway.crossing)))
     } else if doorway.far == here {
-        Some((doorway.near, doorway.crossing.turned().quad()))
+        Some((doorway.near, Quad::from(doorway.crossing.turned())))
     } else {
         None
     }

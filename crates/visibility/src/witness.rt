@@ -1,11 +1,11 @@
 // Witnesses: the first walk between two rooms that has a line.
 ghost use Rattle.std.specs.Prelude.{◌≡◌, ◌<◌, ◌≤◌, [], length, take, is_some, if◌then◌else◌, ◌≢◌};
 ghost use Rattle.visibility.specs.Orders.{InOrder};
-ghost use Rattle.visibility.specs.Questions.{due, asked_all};
-ghost use Rattle.visibility.specs.Sets.{marks, only};
-ghost use Rattle.visibility.specs.States.{state_of};
+ghost use Rattle.visibility.specs.Questions.{walks_from, asked_all};
+ghost use Rattle.visibility.specs.Sets.{marks};
+ghost use Rattle.visibility.specs.States.{world_of, state_of};
 ghost use Rattle.visibility.specs.Witnesses.{leads, ahead, until, no_witness, Told, Witnessed};
-ghost use Rattle.visibility.specs.Worlds.{world};
+ghost use Rattle.visibility.specs.Worlds.{meant};
 
 use crate::copying::copy;
 use crate::quest::Quest;
@@ -22,9 +22,9 @@ fn first_walk<M: Map, S: Sharp>(map: &M, stabber: &mut S, shut: &[bool], a: Room
     requires shut { length (M.Map.doorways map.now) ≤ length shut.now }
     requires room { a < M.Map.rooms map.now }
     requires apart { a ≢ b }
-    ensures value { Told (world (M.Map.rooms map.now) (M.Map.doorways map.now) (S.Stabber.lets stabber.old)) (marks shut.now) a b (S.Sharp.line (asked_all S.Sharp.lined stabber.old (ahead (leads (world (M.Map.rooms map.now) (M.Map.doorways map.now) (S.Stabber.lets stabber.old)) b) (due (world (M.Map.rooms map.now) (M.Map.doorways map.now) (S.Stabber.lets stabber.old)) (marks shut.now) (only a) a [] [])))) result.line (take result.count result.doors) }
+    ensures value { Told (meant M.Map S.Stabber map.now stabber.old) (marks shut.now) a b (S.Sharp.line (asked_all S.Sharp.lined stabber.old (ahead (leads (meant M.Map S.Stabber map.now stabber.old) b) (walks_from (meant M.Map S.Stabber map.now stabber.old) (marks shut.now) a)))) result.line (take result.count result.doors) }
     ensures count { (result.count < M.Map.rooms map.now) × (length result.doors ≡ 256) }
-    ensures asked { stabber.new ≡ asked_all S.Sharp.lined stabber.old (until (leads (world (M.Map.rooms map.now) (M.Map.doorways map.now) (S.Stabber.lets stabber.old)) b) (due (world (M.Map.rooms map.now) (M.Map.doorways map.now) (S.Stabber.lets stabber.old)) (marks shut.now) (only a) a [] [])) }
+    ensures asked { stabber.new ≡ asked_all S.Sharp.lined stabber.old (until (leads (meant M.Map S.Stabber map.now stabber.old) b) (walks_from (meant M.Map S.Stabber map.now stabber.old) (marks shut.now) a)) }
     ensures lets { S.Stabber.lets stabber.new ≡ S.Stabber.lets stabber.old }
 {
     let mut quest = Quest::new(b);
@@ -36,9 +36,9 @@ impl<M: Map, S: Sharp> Table<M, S> {
     // Writes the doorways of the first open walk from a to b that has a line into the space, and answers how many these are, and
     // the line. The questions go in dictionary order of the walks, and end with the walk that is found.
     pub fn witness(&mut self, a: usize, b: usize, space: &mut [usize]) -> Result<Sightline, Refusal>
-        ensures value { Witnessed (world (M.Map.rooms self.old.map) (M.Map.doorways self.old.map) (S.Stabber.lets self.old.stabber)) (marks self.old.closed) a b (S.Sharp.line (asked_all S.Sharp.lined self.old.stabber (ahead (leads (world (M.Map.rooms self.old.map) (M.Map.doorways self.old.map) (S.Stabber.lets self.old.stabber)) b) (due (world (M.Map.rooms self.old.map) (M.Map.doorways self.old.map) (S.Stabber.lets self.old.stabber)) (marks self.old.closed) (only a) a [] [])))) (no_witness (world (M.Map.rooms self.old.map) (M.Map.doorways self.old.map) (S.Stabber.lets self.old.stabber)) a b (length space.old)) result space.old space.new }
-        ensures asked { self.new.stabber ≡ (if is_some (no_witness (world (M.Map.rooms self.old.map) (M.Map.doorways self.old.map) (S.Stabber.lets self.old.stabber)) a b (length space.old)) then self.old.stabber else asked_all S.Sharp.lined self.old.stabber (until (leads (world (M.Map.rooms self.old.map) (M.Map.doorways self.old.map) (S.Stabber.lets self.old.stabber)) b) (due (world (M.Map.rooms self.old.map) (M.Map.doorways self.old.map) (S.Stabber.lets self.old.stabber)) (marks self.old.closed) (only a) a [] []))) }
-        ensures order { InOrder (world (M.Map.rooms self.old.map) (M.Map.doorways self.old.map) (S.Stabber.lets self.old.stabber)) (marks self.old.closed) a (due (world (M.Map.rooms self.old.map) (M.Map.doorways self.old.map) (S.Stabber.lets self.old.stabber)) (marks self.old.closed) (only a) a [] []) }
+        ensures value { Witnessed (world_of M.Map S.Stabber self.old) (marks self.old.closed) a b (S.Sharp.line (asked_all S.Sharp.lined self.old.stabber (ahead (leads (world_of M.Map S.Stabber self.old) b) (walks_from (world_of M.Map S.Stabber self.old) (marks self.old.closed) a)))) (no_witness (world_of M.Map S.Stabber self.old) a b (length space.old)) result space.old space.new }
+        ensures asked { self.new.stabber ≡ (if is_some (no_witness (world_of M.Map S.Stabber self.old) a b (length space.old)) then self.old.stabber else asked_all S.Sharp.lined self.old.stabber (until (leads (world_of M.Map S.Stabber self.old) b) (walks_from (world_of M.Map S.Stabber self.old) (marks self.old.closed) a))) }
+        ensures order { InOrder (world_of M.Map S.Stabber self.old) (marks self.old.closed) a (walks_from (world_of M.Map S.Stabber self.old) (marks self.old.closed) a) }
         ensures same { state_of self.new ≡ state_of self.old }
         ensures map { self.new.map ≡ self.old.map }
         ensures lets { S.Stabber.lets self.new.stabber ≡ S.Stabber.lets self.old.stabber }

@@ -2,8 +2,8 @@ use Rattle.std.proofs.Common.{◌≡◌, ℕ, ◌<◌, true, reverse, length, ta
 use Rattle.std.specs.List.{HoldsAt}
 use Rattle.visibility.specs.Histories.{Stands}
 use Rattle.visibility.specs.Replies.{Answered, calls_of}
-use Rattle.visibility.specs.States.{state_of}
-use Rattle.visibility.specs.Worlds.{World, world}
+use Rattle.visibility.specs.States.{world_of, state_of}
+use Rattle.visibility.specs.Worlds.{World, meant}
 use Rattle.visibility.proofs.Paths.{lined_true, true_lined, sharp_stabbed}
 use Rattle.visibility.proofs.Portals.{sees_lined, lined_sees}
 use Rattle.visibility.proofs.Walked.{fresh_stands}
@@ -18,10 +18,10 @@ returns g c =
     let m = c.args.map in
     let s = c.args.stabber in
     let old = c.args.orders.now in
-    let w = world (g.M.Map.rooms m) (g.M.Map.doorways m) (g.S.Stabber.lets s) in
-    let same : world (g.M.Map.rooms t.map) (g.M.Map.doorways t.map) (g.S.Stabber.lets t.stabber) ≡ w =
-    ap (λ x. world (g.M.Map.rooms x) (g.M.Map.doorways x) (g.S.Stabber.lets t.stabber)) c.new.ensures.owns.0
-    ∙ ap (λ x. world (g.M.Map.rooms m) (g.M.Map.doorways m) (g.S.Stabber.lets x)) c.new.ensures.owns.1 in
+    let w = meant g.M.Map g.S.Stabber m s in
+    let same : world_of g.M.Map g.S.Stabber t ≡ w =
+    ap (λ x. meant g.M.Map g.S.Stabber x t.stabber) c.new.ensures.owns.0
+    ∙ ap (λ x. meant g.M.Map g.S.Stabber m x) c.new.ensures.owns.1 in
     record {
       answered = subst (λ (z : World). (i : ℕ) → i < length old → HoldsAt (λ o. HoldsAt (λ p. Answered true z (reverse (take i (calls_of old))) o p) c.serve_all.new.orders i) old i) same
           c.serve_all.ensures.answered;

@@ -3,8 +3,8 @@ use Rattle.std.proofs.lemmas.List.{get_or_default, get_or-take, length-take}
 use Rattle.visibility.specs.declared.call.Call.TheVariants.{Fill}
 use Rattle.visibility.specs.Calls.{Answered}
 use Rattle.visibility.specs.Histories.{Stands}
-use Rattle.visibility.specs.States.{state_of}
-use Rattle.visibility.specs.Worlds.{World, world}
+use Rattle.visibility.specs.States.{world_of, state_of}
+use Rattle.visibility.specs.Worlds.{World, world, meant}
 use Rattle.visibility.proofs.Paths.{lined_true}
 use Rattle.visibility.proofs.Walked.{ran_none, calls_more, fresh_stands}
 use Rattle.visibility.proofs.run_calls.run_calls.Goals as goal
@@ -12,7 +12,7 @@ use Rattle.visibility.proofs.run_calls.run_calls.Goals as goal
 pub loop-i-init : goal.loop-i-init
 loop-i-init g c =
     let t = c.new-table.result in
-    let w = world (g.M.Map.rooms t.map) (g.M.Map.doorways t.map) (g.S.Stabber.lets t.stabber) in
+    let w = world_of g.M.Map g.S.Stabber t in
     (refl, refl, ran_none w (Answered w) c.args.calls.now c.args.calls.now c.args.answers.now (state_of t) (fresh_stands w (state_of t) c.new-table.ensures.shut c.new-table.ensures.filled))
 
 pub loop-i-preserved : goal.loop-i-preserved
@@ -24,10 +24,10 @@ loop-i-preserved g c =
     let n = c.min-count.result in
     let i = c.loop-i.i in
     let h = reverse (take i calls) in
-    let w = world (g.M.Map.rooms t.map) (g.M.Map.doorways t.map) (g.S.Stabber.lets t.stabber) in
-    let v = world (g.M.Map.rooms u.map) (g.M.Map.doorways u.map) (g.S.Stabber.lets u.stabber) in
+    let w = world_of g.M.Map g.S.Stabber t in
+    let v = world_of g.M.Map g.S.Stabber u in
     let same : v ≡ w =
-    ap (λ m. world (g.M.Map.rooms m) (g.M.Map.doorways m) (g.S.Stabber.lets u.stabber)) was.0
+    ap (λ m. meant g.M.Map g.S.Stabber m u.stabber) was.0
     ∙ ap (λ l. world (g.M.Map.rooms t.map) (g.M.Map.doorways t.map) l) was.1 in
     let call = get_or (take n calls) i (Fill 0) in
     let k : i < n = omega (arith, c.loop-i-test.true, length-take n calls) in
@@ -42,5 +42,5 @@ loop-i-preserved g c =
     )
 
 pub returns-clause-complete : goal.returns-clause-complete
-returns-clause-complete g c = λ h a b. lined_true (world (g.M.Map.rooms c.args.map) (g.M.Map.doorways c.args.map) (g.S.Stabber.lets c.args.stabber))
+returns-clause-complete g c = λ h a b. lined_true (meant g.M.Map g.S.Stabber c.args.map c.args.stabber)
     (g.met.M.Map.inside c.args.map) (g.met.M.Map.bounded c.args.map) (g.met.S.Stabber.stabbed c.args.stabber) _ a b

@@ -1,4 +1,4 @@
-use Rattle.visibility.specs.Worlds.{world}
+use Rattle.visibility.specs.Worlds.{meant}
 use Rattle.visibility.proofs.Paths.{true_lined, sharp_stabbed}
 use Rattle.visibility.proofs.run_calls.run_calls_sharp.Goals as goal
 
@@ -10,6 +10,6 @@ returns g c =
       rest = c.run_calls.ensures.rest;
       stands = c.run_calls.ensures.stands;
       complete = c.run_calls.ensures.complete;
-      sharp = λ h a b. true_lined (world (g.M.Map.rooms c.args.map) (g.M.Map.doorways c.args.map) (g.S.Stabber.lets s))
+      sharp = λ h a b. true_lined (meant g.M.Map g.S.Stabber c.args.map s)
           (sharp_stabbed (g.S.Stabber.lets s) (g.S.Sharp.line s) (g.met.S.Sharp.sharp s) (g.met.S.Sharp.separates s)) _ a b;
     }

@@ -5,13 +5,13 @@ use Rattle.visibility.proofs.Turns.{Setting, Turn}
 use Rattle.visibility.proofs.search.+search.Given as goal
 
 abbrev pub decreases-search : goal.decreases-search
-decreases-search g l = free (g.M.Map.rooms l.map.now) (marks l.entered.now)
+decreases-search g l = free (g.M.Map.rooms l.deck.now.map.now) (marks l.trail.now.entered)
 
 -- where the search starts
 abbrev pub setting :
-    (g : goal.Over) → g.row.M.Denot → List Bool → ℕ → ℕ → g.row.S.Denot → g.row.V.Denot → List Bool → List ℕ → List Quad
+    (g : goal.Over) → g.row.M.Denot → List Bool → ℕ → g.row.S.Denot → g.row.V.Denot → List Bool → List ℕ → List Quad
     → Setting g.row.S.Denot g.row.V.Denot
-setting g map shut here depth s v xs ks p = record {
+setting g map shut here s v xs ks p = record {
   lets = g.V.Visitor.lets;
   heard = g.V.Visitor.heard;
   told = g.V.Visitor.told;
@@ -22,7 +22,6 @@ setting g map shut here depth s v xs ks p = record {
   inside = λ _. g.met.M.Map.inside map;
   shut = marks shut;
   here = here;
-  depth = depth;
   s₀ = s;
   v₀ = v;
   xs₀ = xs;
@@ -32,9 +31,9 @@ setting g map shut here depth s v xs ks p = record {
 
 abbrev pub invariant-loop-k : goal.invariant-loop-k
 invariant-loop-k g l =
-    (l.k ≤ length (g.M.Map.doorways l.map))
-    × Turn (setting g l.map l.shut l.here l.depth l.initial.stabber l.initial.visitor l.initial.entered l.initial.doors l.initial.path)
-    l.k l.stabber l.visitor l.entered l.doors l.path
+    (l.k ≤ length (g.M.Map.doorways l.deck.map.now))
+    × Turn (setting g l.deck.map.now l.deck.shut.now l.here l.initial.stabber l.initial.visitor l.initial.trail.entered l.initial.trail.doors.items l.initial.trail.path.items)
+    l.k l.stabber l.visitor l.trail.entered l.trail.doors.items l.trail.path.items
 
 abbrev pub decreases-loop-k : goal.decreases-loop-k
-decreases-loop-k g l = length (g.M.Map.doorways l.map) - l.k
+decreases-loop-k g l = length (g.M.Map.doorways l.deck.map.now) - l.k

@@ -2,7 +2,8 @@ use Rattle.std.proofs.Common.{Bool, true, List, sym, refl, ap, ◌∙◌, subst�
 use Rattle.std.proofs.lemmas.List.{with_items_is}
 use Rattle.plane.specs.declared.quad.Quad.{Quad}
 use Rattle.visibility.specs.Replies.{Replied}
-use Rattle.visibility.specs.Worlds.{world}
+use Rattle.visibility.specs.States.{world_of}
+use Rattle.visibility.specs.Worlds.{world, meant}
 use Rattle.visibility.proofs.Replies.{space_is}
 use Rattle.visibility.proofs.desks.LinedDesk.serve.Goals as goal
 
@@ -15,7 +16,7 @@ returns g c =
       value = λ h st. record {
         answer = c.reply_sharp-answer.result;
         is_answer = refl;
-        replied = subst₂ (Replied true (world (g.M.Map.rooms t.map) (g.M.Map.doorways t.map) (g.S.Stabber.lets t.stabber)) h o.call c.reply_sharp-answer.result)
+        replied = subst₂ (Replied true (world_of g.M.Map g.S.Stabber t) h o.call c.reply_sharp-answer.result)
             (space_is _ _ _ _ c.as_mut_slice.ensures.value c.as_mut_slice-2.ensures.value)
             (space_is _ _ _ _
             (sym (with_items_is o.doorways c.reply_sharp-answer.new.doorways (c.reply_sharp-answer.auto.doorways ∙ c.as_mut_slice.ensures.len)))
@@ -24,7 +25,7 @@ returns g c =
         call = refl;
       };
       after = c.reply_sharp-answer.ensures.after;
-      world = ap (λ m. world (g.M.Map.rooms m) (g.M.Map.doorways m) (g.S.Stabber.lets u.stabber)) c.reply_sharp-answer.ensures.map
+      world = ap (λ m. meant g.M.Map g.S.Stabber m u.stabber) c.reply_sharp-answer.ensures.map
           ∙ ap (λ (l : List Quad → Bool). world (g.M.Map.rooms t.map) (g.M.Map.doorways t.map) l) c.reply_sharp-answer.ensures.lets;
       sharp = refl;
     }

@@ -3,9 +3,8 @@ use Rattle.std.proofs.lemmas.Bool.{lt-ltb, le-ltb, cond-true, cond-false}
 use Rattle.visibility.specs.Bits.{shown}
 use Rattle.visibility.specs.Sets.{marks}
 use Rattle.visibility.specs.Sights.{sight}
-use Rattle.visibility.specs.States.{State, state_of, no_room}
+use Rattle.visibility.specs.States.{world_of, State, state_of, no_room}
 use Rattle.visibility.specs.declared.refusal.Refusal.TheVariants.{NoSuchRoom}
-use Rattle.visibility.specs.Worlds.{world}
 use Rattle.visibility.proofs.Orders.{in_order}
 use Rattle.visibility.proofs.States.{fill_granted, fill_refused, refused}
 use Rattle.visibility.proofs.TrueRows.{empty_let}
@@ -14,7 +13,7 @@ use Rattle.visibility.proofs.table.Table.fill.Goals as goal
 pub returns : goal.returns
 returns g c =
     let t = c.args.self.now in
-    let w = world (g.M.Map.rooms t.map) (g.M.Map.doorways t.map) (g.S.Stabber.lets t.stabber) in
+    let w = world_of g.M.Map g.S.Stabber t in
     let after : State = record { shut = marks t.closed; filled = marks c.fill.new.self.filled; shows = sight c.fill.new.self.rows } in
     let l : c.args.a < g.M.Map.rooms t.map = omega (arith, c.if-a-room_count.false, c.room_count.ensures) in
     record {
@@ -30,7 +29,7 @@ returns g c =
 pub returns-then-a-room_count : goal.returns-then-a-room_count
 returns-then-a-room_count g c =
     let t = c.args.self.now in
-    let w = world (g.M.Map.rooms t.map) (g.M.Map.doorways t.map) (g.S.Stabber.lets t.stabber) in
+    let w = world_of g.M.Map g.S.Stabber t in
     let past : g.M.Map.rooms t.map ≤ c.args.a = omega (arith, c.if-a-room_count.true, c.room_count.ensures) in
     record {
       value = refused (no_room w c.args.a) (state_of t) (state_of t) _ NoSuchRoom (fill_refused w c.args.a past) refl;

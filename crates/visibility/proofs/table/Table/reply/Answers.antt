@@ -6,8 +6,7 @@ use Rattle.visibility.specs.declared.call.Answer.{Answer}
 use Rattle.visibility.specs.declared.call.Answer.TheVariants.{Count, Seen, Written, NotSharp}
 use Rattle.visibility.specs.Histories.{Stands}
 use Rattle.visibility.specs.Replies.{Space, Replied}
-use Rattle.visibility.specs.States.{state_of}
-use Rattle.visibility.specs.Worlds.{world}
+use Rattle.visibility.specs.States.{world_of, state_of}
 use Rattle.visibility.proofs.Histories.{answered, answered_is, after_fill, after_shows, after_turn, same_stands}
 use Rattle.visibility.proofs.Replies.{after_bitmap}
 use Rattle.visibility.proofs.table.Table.reply.Goals as goal
@@ -15,7 +14,7 @@ use Rattle.visibility.proofs.table.Table.reply.Goals as goal
 pub returns-in-Fill : goal.returns-in-Fill
 returns-in-Fill g c =
     let t = c.args.self.now in
-    let w = world (g.M.Map.rooms t.map) (g.M.Map.doorways t.map) (g.S.Stabber.lets t.stabber) in
+    let w = world_of g.M.Map g.S.Stabber t in
     let keep : List ℕ → Space = λ xs. record { doorways = xs; bytes = c.args.bytes.now } in
     let both = λ (h : List Call) (st : Stands w h (state_of t)).
     after_fill w h (state_of t) (state_of c.fill.new.self) c.in-Fill.a c.fill.result st c.fill.ensures.value in
@@ -30,7 +29,7 @@ returns-in-Fill g c =
 pub returns-in-Shows : goal.returns-in-Shows
 returns-in-Shows g c =
     let t = c.args.self.now in
-    let w = world (g.M.Map.rooms t.map) (g.M.Map.doorways t.map) (g.S.Stabber.lets t.stabber) in
+    let w = world_of g.M.Map g.S.Stabber t in
     let keep : List ℕ → Space = λ xs. record { doorways = xs; bytes = c.args.bytes.now } in
     let both = λ (h : List Call) (st : Stands w h (state_of t)).
     after_shows w h (state_of t) c.in-Shows.a c.in-Shows.b c.shows.result st c.shows.ensures in
@@ -45,7 +44,7 @@ returns-in-Shows g c =
 pub returns-in-Shut : goal.returns-in-Shut
 returns-in-Shut g c =
     let t = c.args.self.now in
-    let w = world (g.M.Map.rooms t.map) (g.M.Map.doorways t.map) (g.S.Stabber.lets t.stabber) in
+    let w = world_of g.M.Map g.S.Stabber t in
     let keep : List ℕ → Space = λ xs. record { doorways = xs; bytes = c.args.bytes.now } in
     let both = λ (h : List Call) (st : Stands w h (state_of t)).
     after_turn w (g.met.S.Stabber.prefix t.stabber) h (Shut c.in-Shut.k) c.in-Shut.k true refl (λ a x. x) (λ a x. x)
@@ -61,7 +60,7 @@ returns-in-Shut g c =
 pub returns-in-Open : goal.returns-in-Open
 returns-in-Open g c =
     let t = c.args.self.now in
-    let w = world (g.M.Map.rooms t.map) (g.M.Map.doorways t.map) (g.S.Stabber.lets t.stabber) in
+    let w = world_of g.M.Map g.S.Stabber t in
     let keep : List ℕ → Space = λ xs. record { doorways = xs; bytes = c.args.bytes.now } in
     let both = λ (h : List Call) (st : Stands w h (state_of t)).
     after_turn w (g.met.S.Stabber.prefix t.stabber) h (Open c.in-Open.k) c.in-Open.k false refl (λ a x. x) (λ a x. x)
@@ -77,7 +76,7 @@ returns-in-Open g c =
 pub returns-in-Bitmap : goal.returns-in-Bitmap
 returns-in-Bitmap g c =
     let t = c.args.self.now in
-    let w = world (g.M.Map.rooms t.map) (g.M.Map.doorways t.map) (g.S.Stabber.lets t.stabber) in
+    let w = world_of g.M.Map g.S.Stabber t in
     let keep : List ℕ → Space = λ xs. record { doorways = xs; bytes = c.args.bytes.now } in
     let full : List ℕ → Space = λ xs. record { doorways = xs; bytes = c.bitmap.new.space } in
     let is : answered Written c.bitmap.result ≡ c.map-in-Bitmap.result = answered_is Written c.bitmap.result c.map-in-Bitmap.result (search rules) in
@@ -92,7 +91,7 @@ returns-in-Bitmap g c =
 pub returns-in-Witness : goal.returns-in-Witness
 returns-in-Witness g c =
     let t = c.args.self.now in
-    let w = world (g.M.Map.rooms t.map) (g.M.Map.doorways t.map) (g.S.Stabber.lets t.stabber) in
+    let w = world_of g.M.Map g.S.Stabber t in
     let keep : List ℕ → Space = λ xs. record { doorways = xs; bytes = c.args.bytes.now } in
     record {
       value = λ h st xs. subst (λ (x : Call). Replied false w h x (Ok NotSharp) (keep xs) (keep xs)) (sym c.in-Witness.is) (refl, refl);

@@ -7,7 +7,7 @@ use Rattle.visibility.specs.declared.call.Answer.TheVariants.{Found}
 use Rattle.visibility.specs.Histories.{Stands}
 use Rattle.visibility.specs.Replies.{Space, Replied}
 use Rattle.visibility.specs.States.{state_of}
-use Rattle.visibility.specs.Worlds.{world}
+use Rattle.visibility.specs.Worlds.{meant}
 use Rattle.visibility.proofs.Histories.{answered, answered_is, same_stands}
 use Rattle.visibility.proofs.Paths.{sharp_stabbed}
 use Rattle.visibility.proofs.Replies.{after_witness, replied_sharp}
@@ -17,7 +17,7 @@ pub returns-in-Witness : goal.returns-in-Witness
 returns-in-Witness g c =
     let t = c.args.self.now in
     let s = t.stabber in
-    let w = world (g.M.Map.rooms t.map) (g.M.Map.doorways t.map) (g.S.Stabber.lets s) in
+    let w = meant g.M.Map g.S.Stabber t.map s in
     let old : Space = record { doorways = c.args.doorways.now; bytes = c.args.bytes.now } in
     let new : Space = record { doorways = c.witness.new.space; bytes = c.args.bytes.now } in
     let is : answered Found c.witness.result ≡ c.map.result = answered_is Found c.witness.result c.map.result (search rules) in

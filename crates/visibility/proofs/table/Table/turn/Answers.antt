@@ -1,10 +1,9 @@
 use Rattle.std.proofs.Common.{◌≡◌, ℕ, ◌<◌, List, length, set, sym, refl, ap, ◌∙◌, arith, rules}
 use Rattle.visibility.specs.Sets.{marks, number, both}
 use Rattle.visibility.specs.Sights.{sight, touches}
-use Rattle.visibility.specs.States.{State, state_of, no_turn, Turns}
+use Rattle.visibility.specs.States.{world_of, State, state_of, no_turn, Turns}
 use Rattle.visibility.specs.declared.refusal.Refusal.TheVariants.{NoSuchDoorway, Already}
 use Rattle.visibility.specs.declared.row.Row.{Row}
-use Rattle.visibility.specs.Worlds.{world}
 use Rattle.visibility.proofs.States.{nth_some, nth_none, refused, granted, turn_missing, turn_already, turn_free, marks_place}
 use Rattle.visibility.proofs.table.Table.turn.Goals as goal
 
@@ -21,7 +20,7 @@ bounds-self-k-in-Some g c =
 pub returns-in-None : goal.returns-in-None
 returns-in-None g c =
     let t = c.args.self.now in
-    let w = world (g.M.Map.rooms t.map) (g.M.Map.doorways t.map) (g.S.Stabber.lets t.stabber) in
+    let w = world_of g.M.Map g.S.Stabber t in
     record {
       value = refused (no_turn w (state_of t) c.args.k c.args.v) (state_of t) (state_of t) _ NoSuchDoorway
           (turn_missing w (state_of t) c.args.k c.args.v (nth_none (g.M.Map.doorways t.map) c.args.k (sym c.in-None.ensures))) refl;
@@ -31,7 +30,7 @@ returns-in-None g c =
 pub returns-then-self-k : goal.returns-then-self-k
 returns-then-self-k g c =
     let t = c.args.self.now in
-    let w = world (g.M.Map.rooms t.map) (g.M.Map.doorways t.map) (g.S.Stabber.lets t.stabber) in
+    let w = world_of g.M.Map g.S.Stabber t in
     let l = nth_some (g.M.Map.doorways c.args.self.now.map) c.args.k c.in-Some.doorway (sym c.in-Some.ensures) in
     record {
       value = refused (no_turn w (state_of t) c.args.k c.args.v) (state_of t) (state_of t) _ Already
@@ -42,7 +41,7 @@ returns-then-self-k g c =
 pub returns-else-self-k : goal.returns-else-self-k
 returns-else-self-k g c =
     let t = c.args.self.now in
-    let w = world (g.M.Map.rooms t.map) (g.M.Map.doorways t.map) (g.S.Stabber.lets t.stabber) in
+    let w = world_of g.M.Map g.S.Stabber t in
     let l = nth_some (g.M.Map.doorways c.args.self.now.map) c.args.k c.in-Some.doorway (sym c.in-Some.ensures) in
     let after : State = record { shut = marks (set t.closed c.args.k c.args.v); filled = marks c.unfill.new.self.filled; shows = sight c.unfill.new.self.rows } in
     let long : length c.args.self.now.closed ≡ 2048 = search rules in

@@ -6,7 +6,7 @@ use Rattle.visibility.specs.declared.refusal.Refusal.TheVariants.{NoSuchRoom, Sa
 use Rattle.visibility.specs.Questions.{due, asked_all}
 use Rattle.visibility.specs.Sets.{only, marks}
 use Rattle.visibility.specs.Witnesses.{leads, ahead, until, no_witness, Told}
-use Rattle.visibility.specs.Worlds.{world}
+use Rattle.visibility.specs.Worlds.{meant}
 use Rattle.visibility.proofs.Grounds.{witness_missing, witness_same, witness_short, witness_free, witness_refused, witness_none, witness_found, asked_refused, asked_granted}
 use Rattle.visibility.proofs.Orders.{in_order}
 use Rattle.visibility.proofs.TrueRows.{empty_let}
@@ -16,7 +16,7 @@ pub returns-then-a-rooms : goal.returns-then-a-rooms
 returns-then-a-rooms g c =
     let t = c.args.self.now in
     let s = t.stabber in
-    let w = world (g.M.Map.rooms t.map) (g.M.Map.doorways t.map) (g.S.Stabber.lets s) in
+    let w = meant g.M.Map g.S.Stabber t.map s in
     let shut = marks t.closed in
     let ts = due w shut (only c.args.a) c.args.a [] [] in
     let f = g.S.Sharp.line (asked_all g.S.Sharp.lined s (ahead (leads w c.args.b) ts)) in
@@ -37,7 +37,7 @@ pub returns-then-a-b : goal.returns-then-a-b
 returns-then-a-b g c =
     let t = c.args.self.now in
     let s = t.stabber in
-    let w = world (g.M.Map.rooms t.map) (g.M.Map.doorways t.map) (g.S.Stabber.lets s) in
+    let w = meant g.M.Map g.S.Stabber t.map s in
     let shut = marks t.closed in
     let ts = due w shut (only c.args.a) c.args.a [] [] in
     let f = g.S.Sharp.line (asked_all g.S.Sharp.lined s (ahead (leads w c.args.b) ts)) in
@@ -58,7 +58,7 @@ pub returns-then-space-rooms : goal.returns-then-space-rooms
 returns-then-space-rooms g c =
     let t = c.args.self.now in
     let s = t.stabber in
-    let w = world (g.M.Map.rooms t.map) (g.M.Map.doorways t.map) (g.S.Stabber.lets s) in
+    let w = meant g.M.Map g.S.Stabber t.map s in
     let shut = marks t.closed in
     let ts = due w shut (only c.args.a) c.args.a [] [] in
     let f = g.S.Sharp.line (asked_all g.S.Sharp.lined s (ahead (leads w c.args.b) ts)) in
@@ -79,7 +79,7 @@ pub returns-in-Some : goal.returns-in-Some
 returns-in-Some g c =
     let t = c.args.self.now in
     let s = t.stabber in
-    let w = world (g.M.Map.rooms t.map) (g.M.Map.doorways t.map) (g.S.Stabber.lets s) in
+    let w = meant g.M.Map g.S.Stabber t.map s in
     let shut = marks t.closed in
     let ts = due w shut (only c.args.a) c.args.a [] [] in
     let f = g.S.Sharp.line (asked_all g.S.Sharp.lined s (ahead (leads w c.args.b) ts)) in
@@ -109,7 +109,7 @@ pub returns-in-None : goal.returns-in-None
 returns-in-None g c =
     let t = c.args.self.now in
     let s = t.stabber in
-    let w = world (g.M.Map.rooms t.map) (g.M.Map.doorways t.map) (g.S.Stabber.lets s) in
+    let w = meant g.M.Map g.S.Stabber t.map s in
     let shut = marks t.closed in
     let ts = due w shut (only c.args.a) c.args.a [] [] in
     let f = g.S.Sharp.line (asked_all g.S.Sharp.lined s (ahead (leads w c.args.b) ts)) in
