@@ -27,21 +27,21 @@ fn usage(rt: &HostRuntime) -> anyhow::Result<()> {
 }
 
 // The orders for a fresh table over a plan.
-struct Orders<'a> {
+struct TableOrders<'a> {
     plan: Plan,
     orders: &'a mut [Order],
 }
 
-impl<'a> Task for Orders<'a> {
+impl<'a> Task for TableOrders<'a> {
     type Done = ();
 
     fn over<S: Stabber + Drop>(self, stabber: S) {
-        let Orders { plan, orders } = self;
+        let TableOrders { plan, orders } = self;
         drop(run(plan, stabber, orders));
     }
 
     fn over_sharp<S: Sharp + Drop>(self, stabber: S) {
-        let Orders { plan, orders } = self;
+        let TableOrders { plan, orders } = self;
         drop(run_sharp(plan, stabber, orders));
     }
 }
@@ -56,7 +56,7 @@ fn serve(rt: &HostRuntime, plan: Plan, pile: Pile) -> anyhow::Result<()> {
     rt.stdin().read_to_end(&mut input)?;
     let mut session = Session::of(heap, rooms, input.as_slice())?;
     let orders = session.orders.as_mut_slice();
-    pile.perform(Orders { plan, orders });
+    pile.perform(TableOrders { plan, orders });
     session.print(rt)
 }
 

@@ -39,7 +39,10 @@ impl<'a> fmt::Display for Said<'a> {
             Some(Ok(Answer::Seen(false))) => f.write_str("no"),
             Some(Ok(Answer::Found(sightline))) => witness(f, sightline, order.doorways.as_slice()),
             Some(Ok(Answer::Written(count))) => {
-                hexadecimal(f, order.bytes.get(..count).unwrap_or(order.bytes.as_slice()))
+                hexadecimal(
+                    f,
+                    order.bytes.get(..count).unwrap_or(order.bytes.as_slice()),
+                )
             }
             Some(Ok(Answer::NotSharp)) => f.write_str("not sharp"),
             Some(Err(refusal)) => {

@@ -163,15 +163,27 @@ fn long_texts(rt: HostRuntime) {
     refused(&rt, &text, (14, 2, 60_000));
 }
 
+// Writes `part` into `text`, from the place `at` on.
+fn write_at(text: &mut [u8], at: usize, part: &[u8]) {
+    for (place, b) in text.iter_mut().skip(at).zip(part) {
+        *place = *b;
+    }
+}
+
+// Writes a zero at each second place of `text` from `start` to `end`.
+fn write_zeros(text: &mut [u8], start: usize, end: usize) {
+    for place in text.iter_mut().take(end).skip(start).step_by(2) {
+        *place = b'0';
+    }
+}
+
 // The most corners: three of a triangle, and 1,021 that no face uses.
 #[test]
 fn many_corners(rt: HostRuntime) {
     let mut text = [b' '; 6164];
-    text[..30].copy_from_slice(b"OFF 1024 1 0 0 0 0 4 0 0 0 4 0");
-    for digit in text[31..6157].iter_mut().step_by(2) {
-        *digit = b'0';
-    }
-    text[6157..].copy_from_slice(b"3 0 1 2");
+    write_at(&mut text, 0, b"OFF 1024 1 0 0 0 0 4 0 0 0 4 0");
+    write_zeros(&mut text, 31, 6157);
+    write_at(&mut text, 6157, b"3 0 1 2");
     assert_eq!(rt; reading(&text).0, Ok(ONE_ROOM));
     text[7] = b'5';
     refused(&rt, &text, (14, 2, 4));
