@@ -1,4 +1,5 @@
 // Orders by their words.
+use crate::lines::words;
 use std::alloc::{AllocError, Global};
 use visibility::call::Call;
 use visibility::order::Order;
@@ -8,47 +9,29 @@ const BITMAP: usize = 8203;
 
 // A decimal number of one to nine digits.
 fn number(word: &[u8]) -> Option<usize> {
-    if word.is_empty() || word.len() > 9 {
+    if word.len() > 9 || !word.iter().all(|b| b.is_ascii_digit()) {
         return None;
     }
-    let mut n = 0usize;
-    for b in word {
-        if *b < b'0' || *b > b'9' {
-            return None;
-        }
-        n = n.checked_mul(10)?.checked_add(usize::from(*b - b'0'))?;
-    }
-    Some(n)
+    std::str::from_utf8(word).ok()?.parse().ok()
 }
 
 // The call that the words name.
-fn call(words: &[Vec<u8>]) -> Option<Call> {
-    let name = std::str::from_utf8(words.first()?.as_slice()).ok()?;
-    if words.len() > 3 {
-        return None;
-    }
-    let a = match words.get(1) {
-        Some(word) => Some(number(word.as_slice())?),
-        None => None,
-    };
-    let b = match words.get(2) {
-        Some(word) => Some(number(word.as_slice())?),
-        None => None,
-    };
-    match (name, a, b) {
-        ("fill", Some(a), None) => Some(Call::Fill(a)),
-        ("shows", Some(a), Some(b)) => Some(Call::Shows(a, b)),
-        ("shut", Some(k), None) => Some(Call::Shut(k)),
-        ("open", Some(k), None) => Some(Call::Open(k)),
-        ("witness", Some(a), Some(b)) => Some(Call::Witness(a, b)),
-        ("bitmap", None, None) => Some(Call::Bitmap),
+fn call(words: &[&[u8]]) -> Option<Call> {
+    match words {
+        [b"fill", a] => Some(Call::Fill(number(a)?)),
+        [b"shows", a, b] => Some(Call::Shows(number(a)?, number(b)?)),
+        [b"shut", k] => Some(Call::Shut(number(k)?)),
+        [b"open", k] => Some(Call::Open(number(k)?)),
+        [b"witness", a, b] => Some(Call::Witness(number(a)?, number(b)?)),
+        [b"bitmap"] => Some(Call::Bitmap),
         _ => None,
     }
 }
 
-// The order that the words are, with the space that it needs; nothing where they are no order.
-pub fn order(heap: Global, rooms: usize, words: &[Vec<u8>]) -> Result<Option<Order>, AllocError> {
-    let Some(call) = call(words) else {
+// The order in a line, with the space that it needs; nothing where the line is no order.
+pub fn order(heap: Global, rooms: usize, line: &[u8]) -> Result<Option<Order>, AllocError> {
+    let words = words(heap, line)?;
+    let Some(call) = call(words.as_slice()) else {
         return Ok(None);
     };
     let (doorways, bytes) = match call {

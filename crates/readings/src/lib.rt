@@ -1,4 +1,4 @@
-// Tables of texts, with what the text layer and the grid reader answer to each.
+// Tables of texts, with what the text layer and the readers answer to each.
 #![tactic(auto)]
 
 #[cfg(test)]
@@ -6,6 +6,6 @@ mod numbers;
 #[cfg(test)]
 mod plans;
 #[cfg(test)]
-mod polygon_texts;
-#[cfg(test)]
 mod polygons;
+#[cfg(test)]
+mod refusal;

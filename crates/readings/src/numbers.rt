@@ -1,80 +1,45 @@
 // Numbers, good and bad, from the front of a text.
-use std::process::Abort;
-use text::{Fault, Lexer, Number};
+use crate::refusal::{Refusal, refusal};
+use text::{Lexer, Number};
 
-// A fault as its number, the number of its layer, and its place.
-fn numbers_of(fault: Fault) -> (u8, u8, usize) {
-    (fault.number(), fault.layer(), fault.place)
-}
-
-#[derive(Clone, Copy)]
-struct Case {
-    text: &'static str,
-    signed: bool,
-    answer: Result<Number, (u8, u8, usize)>,
-}
-
-const fn good(
-    text: &'static str,
-    signed: bool,
-    magnitude: u32,
-    negative: bool,
-    start: usize,
-) -> Case {
-    let answer = Ok(Number {
+fn good(magnitude: u32, negative: bool, start: usize) -> Result<Number, Refusal> {
+    Ok(Number {
         magnitude,
         negative,
         start,
-    });
-    Case {
-        text,
-        signed,
-        answer,
-    }
+    })
 }
 
-const fn bad(text: &'static str, signed: bool, number: u8, place: usize) -> Case {
-    let answer = Err((number, 1, place));
-    Case {
-        text,
-        signed,
-        answer,
-    }
-}
-
-fn answers(rt: &impl Abort, case: Case) {
-    let text = case.text;
-    let said = Lexer::new(text.as_bytes(), 0)
-        .number(case.signed)
-        .map_err(numbers_of);
-    assert_eq!(rt; said, case.answer, "{text}");
+fn bad(number: u8, place: usize) -> Result<Number, Refusal> {
+    Err((number, 1, place))
 }
 
 #[test]
 fn numbers(rt: HostRuntime) {
     let cases = [
-        good("0", false, 0, false, 0),
-        good(" \t\n17 4", false, 17, false, 3),
-        good("123456", false, 123456, false, 0),
-        good("000012 ", false, 12, false, 0),
-        bad("1234567", false, 11, 0),
-        bad("  0000001", false, 11, 2),
-        bad("", false, 12, 0),
-        bad("   ", false, 12, 3),
-        bad("-5", false, 10, 0),
-        bad("5-", false, 10, 1),
-        bad("12a", false, 10, 2),
-        bad(" +5", true, 10, 1),
-        good("-5", true, 5, true, 0),
-        good("-0", true, 0, true, 0),
-        good(" -999999\n", true, 999999, true, 1),
-        bad(" -1234567", true, 11, 1),
-        bad("- 5", true, 10, 1),
-        bad("--5", true, 10, 1),
-        bad(" -", true, 12, 2),
-        bad("5-5", true, 10, 1),
+        ("0", false, good(0, false, 0)),
+        (" \t\n17 4", false, good(17, false, 3)),
+        ("123456", false, good(123456, false, 0)),
+        ("000012 ", false, good(12, false, 0)),
+        ("1234567", false, bad(11, 0)),
+        ("  0000001", false, bad(11, 2)),
+        ("", false, bad(12, 0)),
+        ("   ", false, bad(12, 3)),
+        ("-5", false, bad(10, 0)),
+        ("5-", false, bad(10, 1)),
+        ("12a", false, bad(10, 2)),
+        (" +5", true, bad(10, 1)),
+        ("-5", true, good(5, true, 0)),
+        ("-0", true, good(0, true, 0)),
+        (" -999999\n", true, good(999999, true, 1)),
+        (" -1234567", true, bad(11, 1)),
+        ("- 5", true, bad(10, 1)),
+        ("--5", true, bad(10, 1)),
+        (" -", true, bad(12, 2)),
+        ("5-5", true, bad(10, 1)),
     ];
-    for case in cases {
-        answers(&rt, case);
+    for (text, signed, answer) in cases {
+        let said = Lexer::new(text.as_bytes(), 0).number(signed);
+        assert_eq!(rt; said.map_err(refusal), answer, "{text}");
     }
 }

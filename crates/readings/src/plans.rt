@@ -1,24 +1,14 @@
 // Plans, read and refused.
+use crate::refusal::{Refusal, refusal};
 use grid::{Size, read};
 use std::process::Abort;
-use text::Fault;
-
-// A fault as its number, the number of its layer, and its place.
-fn numbers_of(fault: Fault) -> (u8, u8, usize) {
-    (fault.number(), fault.layer(), fault.place)
-}
 
 // The text is refused so, and the space is left all zeros.
-fn refused(rt: &impl Abort, text: &[u8], number: u8, layer: u8, place: usize) {
+fn refused(rt: &impl Abort, text: &[u8], expected: Refusal) {
     let mut space = [7u8; 1539];
-    assert_eq!(rt;
-        read(text, &mut space).map_err(numbers_of),
-        Err((number, layer, place)),
-        "{number} at {place}"
-    );
-    for x in space {
-        assert_eq!(rt; x, 0);
-    }
+    let said = read(text, &mut space).map_err(refusal);
+    assert_eq!(rt; said, Err(expected), "{}", text.escape_ascii());
+    assert_eq!(rt; space, [0; 1539], "{}", text.escape_ascii());
 }
 
 // The text is a plan of this size.
@@ -64,7 +54,7 @@ fn refusals(rt: HostRuntime) {
         ("P1 5 5 11111 10001 10001", 16, 3, 21),
     ];
     for (text, number, layer, place) in cases {
-        refused(&rt, text.as_bytes(), number, layer, place);
+        refused(&rt, text.as_bytes(), (number, layer, place));
     }
 }
 
@@ -72,10 +62,9 @@ fn refusals(rt: HostRuntime) {
 #[test]
 fn short_space(rt: HostRuntime) {
     let mut space = [7u8; 1538];
-    assert_eq!(rt; read(b"P4", &mut space).map_err(numbers_of), Err((6, 2, 0)));
-    for x in space {
-        assert_eq!(rt; x, 7);
-    }
+    let said = read(b"P4", &mut space).map_err(refusal);
+    assert_eq!(rt; said, Err((6, 2, 0)));
+    assert_eq!(rt; space, [7; 1538]);
 }
 
 // The pixels of a plan, and zeros behind them.
@@ -87,10 +76,8 @@ fn pixels(rt: HostRuntime) {
     let plan = [
         1, 1, 1, 1, 1, 1, 0, 0, 0, 1, 1, 0, 1, 0, 1, 1, 0, 0, 0, 1, 1, 1, 1, 1, 1,
     ];
-    for k in 0..1600 {
-        let expected = if k < 25 { plan[k] } else { 0 };
-        assert_eq!(rt; space[k], expected);
-    }
+    assert!(rt; space.starts_with(&plan));
+    assert!(rt; space.iter().skip(25).all(|x| *x == 0));
 }
 
 // Each byte of white space parts numbers and pixels, and no other byte does.
@@ -106,28 +93,17 @@ fn white_space(rt: HostRuntime) {
         if b == 32 || (9 <= b && b <= 13) {
             accepted(&rt, &text, 1, 1);
         } else {
-            refused(&rt, &text, 13, 2, 0);
+            refused(&rt, &text, (13, 2, 0));
         }
     }
 }
 
-// Writes `front` over the front of `text`.
-fn begin(text: &mut [u8], front: &[u8]) {
-    for (k, b) in front.iter().enumerate() {
-        if k < text.len() {
-            text[k] = *b;
-        }
-    }
-}
-
-// Opens the rooms of a plan of `w` by `h` rooms whose pixels begin at place 9 of `text`.
-fn open_rooms(text: &mut [u8], w: u16, h: u16) {
-    for j in 0..usize::from(h) {
-        for i in 0..usize::from(w) {
-            let at = 9 + (2 * j + 1) * (2 * usize::from(w) + 1) + 2 * i + 1;
-            if at < text.len() {
-                text[at] = b'0';
-            }
+// Opens the rooms of a plan with `w` rooms in a row.
+fn open_rooms(pixels: &mut [u8], w: u16) {
+    let width = 2 * usize::from(w) + 1;
+    for row in pixels.chunks_mut(width).skip(1).step_by(2) {
+        for pixel in row.iter_mut().skip(1).step_by(2) {
+            *pixel = b'0';
         }
     }
 }
@@ -136,24 +112,24 @@ fn open_rooms(text: &mut [u8], w: u16, h: u16) {
 #[test]
 fn long_texts(rt: HostRuntime) {
     let mut text = [b' '; 60_001];
-    begin(&mut text, b"P1 3 3 111101111");
+    text[..16].copy_from_slice(b"P1 3 3 111101111");
     accepted(&rt, &text[0..60_000], 1, 1);
-    refused(&rt, &text, 14, 2, 60_000);
+    refused(&rt, &text, (14, 2, 60_000));
 }
 
 // The largest plans: 16 by 16 rooms, 256 by 1, and 1 by 256.
 #[test]
 fn large_plans(rt: HostRuntime) {
     let mut square = [b'1'; 1098];
-    begin(&mut square, b"P1 33 33 ");
-    open_rooms(&mut square, 16, 16);
+    square[..9].copy_from_slice(b"P1 33 33 ");
+    open_rooms(&mut square[9..], 16);
     accepted(&rt, &square, 16, 16);
     let mut row = [b'1'; 1548];
-    begin(&mut row, b"P1 513 3 ");
-    open_rooms(&mut row, 256, 1);
+    row[..9].copy_from_slice(b"P1 513 3 ");
+    open_rooms(&mut row[9..], 256);
     accepted(&rt, &row, 256, 1);
     let mut column = [b'1'; 1548];
-    begin(&mut column, b"P1 3 513 ");
-    open_rooms(&mut column, 1, 256);
+    column[..9].copy_from_slice(b"P1 3 513 ");
+    open_rooms(&mut column[9..], 1);
     accepted(&rt, &column, 1, 256);
 }
