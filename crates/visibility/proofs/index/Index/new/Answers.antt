@@ -7,9 +7,9 @@ use Rattle.visibility.proofs.index.Index.new.Goals as goal
 pub loop-k-init : goal.loop-k-init
 loop-k-init g c =
     let ds = g.M.Map.doorways c.args.map.now in
-    let x : Index = record { first = c.for_rooms-first.result; near = c.for_doorways-near.result; far = c.for_doorways-far.result } in
+    let x : Index = record { first = c.for_rooms-first.result; next = c.for_doorways-next.result } in
     subst (λ (m : ℕ). Entered ds m x) (sym c.doorway_count-count.ensures)
-    (entered_none ds x (c.for_rooms-first.ensures ∙ ap (replicate 256) c.doorway_count-count.ensures) c.for_doorways-near.ensures c.for_doorways-far.ensures)
+    (entered_none ds x (c.for_rooms-first.ensures ∙ ap (replicate 256) c.doorway_count-count.ensures) c.for_doorways-next.ensures)
 
 pub loop-k-preserved-in-Some : goal.loop-k-preserved-in-Some
 loop-k-preserved-in-Some g c =
