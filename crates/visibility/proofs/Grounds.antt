@@ -1,18 +1,16 @@
 -- On which grounds a witness call is refused.
-use Rattle.std.proofs.Common.{◌≡◌, ℕ, ◌+◌, ◌<◌, ◌≤◌, cond, eqb, ltb, ◌⊎◌, List, length, is_some, Some, None, Ok, Err, Option, sym, refl, ap, ◌∙◌, subst, ⊎_elim}
+use Rattle.std.proofs.Common.{◌≡◌, ℕ, ◌+◌, ◌<◌, ◌≤◌, cond, eqb, ltb, ◌⊎◌, List, length, is_some, Some, None, Ok, Err, Option, sym, refl, ap, ◌∙◌, subst, ⊎_elim, ◌++◌, drop}
 use Rattle.std.proofs.lemmas.Bool.{lt-ltb, le-ltb, eq-eqb, ne_eqb, cond-true, cond-false, cases_lt}
 use Rattle.plane.specs.declared.quad.Quad.{Quad}
 use Rattle.plane.specs.Limits.{InLimits}
 use Rattle.plane.specs.Separation.{Coefficients, Proper, Separates}
 use Rattle.visibility.specs.declared.refusal.Refusal.{Refusal}
 use Rattle.visibility.specs.declared.refusal.Refusal.TheVariants.{NoSuchRoom, SameRoomTwice, SpaceTooShort, NoLine}
-use Rattle.visibility.specs.declared.sightline.Sightline.{Sightline}
-use Rattle.visibility.specs.Copying.{over}
+use Rattle.visibility.specs.declared.quest.Found.{Found}
 use Rattle.visibility.specs.Sets.{Numbers}
 use Rattle.visibility.specs.Walks.{TrueRow}
 use Rattle.visibility.specs.Witnesses.{no_witness, Told, Witnessed}
 use Rattle.visibility.specs.Worlds.{World}
-use Rattle.visibility.proofs.Copies.{over_all}
 
 module _ (w : World) (a b n : ℕ) where
   pub witness_missing : (w.rooms ≤ a) ⊎ (w.rooms ≤ b) → no_witness w a b n ≡ Some NoSuchRoom
@@ -59,15 +57,17 @@ module _ (w : World) (shut : Numbers) (a b : ℕ) (f : List Quad → Option Coef
   witness_none h n = subst (λ (v : Option Refusal). Witnessed w shut a b f v (Err NoLine) xs xs) (sym h) (refl, n, refl)
 
   pub witness_found :
-      (v : Sightline) (ks ys : List ℕ) → o ≡ None → Told w shut a b f (Some v.line) ks
-      → ((p : List Quad) → f p ≡ Some v.line → Proper v.line × InLimits v.line × Separates v.line p)
-      → v.doorways ≡ length ks → length ks ≤ length xs → ys ≡ over ks xs → Witnessed w shut a b f o (Ok v) xs ys
-  witness_found v ks ys h t separates count l e = subst (λ (g : Option Refusal). Witnessed w shut a b f g (Ok v) xs ys) (sym h) (record {
-    doorways = ks;
-    path = t.0;
-    first_walk = t.1;
-    line = t.2;
-    separates = separates t.0 t.2;
-    count = count;
-    written = e ∙ over_all ks xs l;
-  })
+      (u : Found) (n : ℕ) (ys : List ℕ) → o ≡ None → Told w shut a b f (Some u)
+      → ((p : List Quad) → f p ≡ Some u.line → Proper u.line × InLimits u.line × Separates u.line p)
+      → n ≡ length u.doors.items → ys ≡ u.doors.items ++ drop n xs
+      → Witnessed w shut a b f o (Ok (record { line = u.line; doorways = n })) xs ys
+  witness_found u n ys h t separates count e =
+      subst (λ (g : Option Refusal). Witnessed w shut a b f g (Ok (record { line = u.line; doorways = n })) xs ys) (sym h) (record {
+        doorways = u.doors.items;
+        path = t.0;
+        first_walk = t.1;
+        line = t.2;
+        separates = separates t.0 t.2;
+        count = count;
+        written = e ∙ ap (λ (j : ℕ). u.doors.items ++ drop j xs) count;
+      })

@@ -5,7 +5,8 @@ use Rattle.std.proofs.lemmas.List.{get_or-set_same, get_or-set_other, length-set
 use Rattle.std.proofs.lemmas.Bool.{cases_eq, ne_eqb, cond-false, cases_Bool}
 use Rattle.maps.specs.declared.doorway.Doorway.{Doorway}
 use Rattle.visibility.specs.declared.index.Index.{Index}
-use Rattle.visibility.specs.Indexes.{Aside, Passed, entered_in, Indexed}
+use Rattle.visibility.specs.declared.index.Next.{Next}
+use Rattle.visibility.specs.Indexes.{Aside, Passed, next_of, entered_in, Indexed}
 use Rattle.visibility.specs.Sets.{Numbers}
 use Rattle.visibility.specs.Steps.{leave, fresh, through, onward}
 use Rattle.visibility.proofs.States.{nth_some, nth_none}
@@ -33,19 +34,17 @@ missing ds k q l = let b = nth_none ds k q in omega arith
 -- the doorways from m on are entered
 pub record Entered (ds : List Doorway) (m : ℕ) (x : Index) : Type 0 where
   pub firsts : length x.first ≡ 256
-  pub nears : length x.near ≡ 2048
-  pub fars : length x.far ≡ 2048
+  pub nexts : length x.next ≡ 2048
   pub first : (a : ℕ) → a < 256 → Passed ds a m (get_or x.first a 0)
-  pub near : (k : ℕ) (d : Doorway) → m ≤ k → slice_get ds k ≡ Some d → Passed ds d.near (k + 1) (get_or x.near k 0)
-  pub far : (k : ℕ) (d : Doorway) → m ≤ k → slice_get ds k ≡ Some d → Passed ds d.far (k + 1) (get_or x.far k 0)
+  pub near : (k : ℕ) (d : Doorway) → m ≤ k → slice_get ds k ≡ Some d → Passed ds d.near (k + 1) (next_of x k).near
+  pub far : (k : ℕ) (d : Doorway) → m ≤ k → slice_get ds k ≡ Some d → Passed ds d.far (k + 1) (next_of x k).far
 
 module _ (ds : List Doorway) where
   pub entered_none :
-      (x : Index) → x.first ≡ replicate 256 (length ds) → length x.near ≡ 2048 → length x.far ≡ 2048 → Entered ds (length ds) x
-  entered_none x f n m = record {
+      (x : Index) → x.first ≡ replicate 256 (length ds) → length x.next ≡ 2048 → Entered ds (length ds) x
+  entered_none x f n = record {
     firsts = ap length f ∙ length-replicate 256 (length ds);
-    nears = n;
-    fars = m;
+    nexts = n;
     first = λ a l.
         let e : get_or x.first a 0 ≡ length ds = ap (λ (v : List ℕ). get_or v a 0) f ∙ get_or-replicate 256 a (length ds) 0 l in
         (omega arith, omega arith, λ i d p q. absurd (omega arith));
@@ -96,34 +95,35 @@ module _ (ds : List Doorway) where
         (cases_eq a d.near))
         (cases_eq a d.far)
 
-    -- what stands at k in a list of nexts where the next of m was set
+    -- what comes next after k, once that of m was set
     next :
-        (room : Doorway → ℕ) (xs : List ℕ) → room d < 256 → length xs ≡ 2048
-        → ((k : ℕ) (c : Doorway) → m + 1 ≤ k → slice_get ds k ≡ Some c → Passed ds (room c) (k + 1) (get_or xs k 0))
-        → (k : ℕ) (c : Doorway) → m ≤ k → slice_get ds k ≡ Some c
-        → Passed ds (room c) (k + 1) (get_or (set xs m (get_or x.first (room d) 0)) k 0)
-    next room xs l long old k c p q =
+        (room : Doorway → ℕ) (side : Next → ℕ)
+        → side (record { near = get_or x.first d.near 0; far = get_or x.first d.far 0 }) ≡ get_or x.first (room d) 0 → room d < 256
+        → ((k : ℕ) (c : Doorway) → m + 1 ≤ k → slice_get ds k ≡ Some c → Passed ds (room c) (k + 1) (side (next_of x k)))
+        → (k : ℕ) (c : Doorway) → m ≤ k → slice_get ds k ≡ Some c → Passed ds (room c) (k + 1) (side (next_of (entered_in x m d) k))
+    next room side at l old k c p q =
+        let n : Next = record { near = get_or x.first d.near 0; far = get_or x.first d.far 0 } in
+        let blank : Next = record { near = 0; far = 0 } in
         ⊎_elim
         (λ (s : k ≡ m).
         let t : d ≡ c = same c (subst (λ (j : ℕ). slice_get ds j ≡ Some c) s q) in
-        let lt : m < length xs = omega arith in
-        let e : get_or (set xs m (get_or x.first (room d) 0)) k 0 ≡ get_or x.first (room d) 0 =
-        ap (λ (j : ℕ). get_or (set xs m (get_or x.first (room d) 0)) j 0) s ∙ get_or-set_same xs m (get_or x.first (room d) 0) 0 lt in
+        let lt : m < length x.next = omega (arith, was.nexts) in
+        let e : side (next_of (entered_in x m d) k) ≡ get_or x.first (room d) 0 =
+        ap (λ (j : ℕ). side (next_of (entered_in x m d) j)) s ∙ ap side (get_or-set_same x.next m n blank lt) ∙ at in
         subst (Passed ds (room c) (k + 1)) (sym e)
         (subst (λ (j : ℕ). Passed ds (room c) (j + 1) (get_or x.first (room d) 0)) (sym s)
         (subst (λ (z : Doorway). Passed ds (room z) (m + 1) (get_or x.first (room d) 0)) t (was.first (room d) l))))
         (λ (ne : k ≡ m → ⊥).
-        subst (Passed ds (room c) (k + 1)) (sym (get_or-set_other xs m k (get_or x.first (room d) 0) 0 ne)) (old k c (omega arith) q))
+        subst (Passed ds (room c) (k + 1)) (sym (ap side (get_or-set_other x.next m k n blank ne))) (old k c (omega arith) q))
         (cases_eq k m)
 
     pub entered_more : Entered ds m (entered_in x m d)
     entered_more = record {
       firsts = length-set (set x.first d.near m) d.far m ∙ length-set x.first d.near m ∙ was.firsts;
-      nears = length-set x.near m _ ∙ was.nears;
-      fars = length-set x.far m _ ∙ was.fars;
+      nexts = length-set x.next m _ ∙ was.nexts;
       first = here_first;
-      near = next (λ c. c.near) x.near in_near was.nears was.near;
-      far = next (λ c. c.far) x.far in_far was.fars was.far;
+      near = next (λ c. c.near) (λ n. n.near) refl in_near was.near;
+      far = next (λ c. c.far) (λ n. n.far) refl in_far was.far;
     }
 
   pub entered_all : (x : Index) → Entered ds 0 x → Indexed ds x

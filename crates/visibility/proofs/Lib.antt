@@ -1,7 +1,6 @@
 pub mod Numbers
 pub mod Bits
 pub mod Members
-pub mod Copies
 pub mod Steps
 pub mod Questions
 pub mod TrueRows

@@ -1,13 +1,12 @@
 -- The search for a room ends at the first due walk that leads there, and that is the first walk of all.
-use Rattle.std.proofs.Common.{◌≡◌, ℕ, ◌+◌, ◌<◌, ◌≤◌, Bool, true, false, eqb, ◌⊎◌, List, [], ◌∷◌, ◌++◌, length, take, drop, is_some, Some, None, fold, Option, sym, refl, ap, ◌∙◌, subst, inl, inr, ⊎_elim, arith}
+use Rattle.std.proofs.Common.{◌≡◌, IfSome, ℕ, ◌<◌, Bool, true, false, eqb, ◌⊎◌, List, [], ◌∷◌, length, is_some, Some, None, fold, Option, sym, refl, ap, ◌∙◌, subst, inl, inr, ⊎_elim, arith}
 use mathlib.Core.Path.{fun_ext}
-use Rattle.std.proofs.lemmas.List.{take_at, length-append, length-drop}
 use Rattle.std.proofs.lemmas.Bool.{cases_Bool, cond-true, cond-false, eqb-true, eq-eqb, and_parts, and_from, and_left, and_right, true≢false}
 use Rattle.plane.specs.First.{first}
 use Rattle.plane.specs.declared.quad.Quad.{Quad}
 use Rattle.plane.specs.Separation.{Coefficients}
+use Rattle.visibility.specs.declared.quest.Found.{Found}
 use Rattle.visibility.specs.declared.quest.Quest.{Quest}
-use Rattle.visibility.specs.Copying.{over}
 use Rattle.visibility.specs.Orders.{In, Before, Rising, InOrder}
 use Rattle.visibility.specs.Questions.{visited, toured, asked_all}
 use Rattle.visibility.specs.Quests.{kept, quested}
@@ -16,7 +15,6 @@ use Rattle.visibility.specs.Trips.{Trip}
 use Rattle.visibility.specs.Walks.{Walk, Open, TrueRow}
 use Rattle.visibility.specs.Witnesses.{leads, ahead, until, FirstWalk, Told}
 use Rattle.visibility.specs.Worlds.{World, Inside, Lawful}
-use Rattle.visibility.proofs.Copies.{over_all}
 use Rattle.visibility.proofs.Paths.{walk_short}
 use Rattle.visibility.proofs.Questions.{ended_stays}
 use Rattle.visibility.proofs.TrueRows.{lets_shorter}
@@ -26,7 +24,7 @@ module _ {S : Type 0} (lets : S → List Quad → Bool) (lined : S → List Quad
   told v s t = quested v (line s t.path) t
 
   abbrev ended : Quest → Bool
-  ended v = is_some v.line
+  ended v = is_some v.found
 
   -- how the search ends: no walk leads to the goal, or the first that does is kept
   pub record Missed (s : S) (v : Quest) (ts : List Trip) : Type 0 where
@@ -40,7 +38,7 @@ module _ {S : Type 0} (lets : S → List Quad → Bool) (lined : S → List Quad
     pub its_line : line (asked_all lined s (ahead (leads w v.goal) ts)) trip.path ≡ Some line_is
     pub after : toured lined told ended s v ts ≡ (asked_all lined s (until (leads w v.goal) ts), kept v line_is trip.doors)
 
-  module _ (s : S) (v : Quest) (t : Trip) (ts : List Trip) (fresh : v.line ≡ None) where
+  module _ (s : S) (v : Quest) (t : Trip) (ts : List Trip) (fresh : v.found ≡ None) where
     abbrev f : Trip → Bool
     f = leads w v.goal
 
@@ -86,7 +84,7 @@ module _ {S : Type 0} (lets : S → List Quad → Bool) (lined : S → List Quad
     }
 
   pub quest_toured :
-      (s : S) (v : Quest) (ts : List Trip) → w.lets ≡ lets s → v.line ≡ None → Missed s v ts ⊎ Caught s v ts
+      (s : S) (v : Quest) (ts : List Trip) → w.lets ≡ lets s → v.found ≡ None → Missed s v ts ⊎ Caught s v ts
   quest_toured s v [] same fresh = inl (record { none = refl; after = refl })
   quest_toured s v (t ∷ ts) same fresh =
       by_line (quest_toured (lined s t.path) v ts (same ∙ sym (fun_ext (λ p. steady s t.path p))) fresh) (line s t.path) refl
@@ -170,32 +168,22 @@ module _ (w : World) (lawful : Lawful w) (shut : Numbers) (a b : ℕ) (apart : a
       }
 
 -- what a quest has when the search from a room is over
-module _ {S : Type 0} (lets : S → List Quad → Bool) (lined : S → List Quad → S) (line : S → List Quad → Option Coefficients) (sharp : (s : S) (p : List Quad) → is_some (line s p) ≡ lets s p) (steady : (s : S) (p q : List Quad) → lets (lined s p) q ≡ lets s q) (w : World) (inside : Inside w) (lawful : Lawful w) (few : w.rooms ≤ 256) (s s' : S) (same : w.lets ≡ lets s) (v v' : Quest) (fresh : v.line ≡ None) (start : v.count ≡ 0) (long : length v.doors ≡ 256) (shut : Numbers) (a : ℕ) (low : a < w.rooms) (apart : a ≡ v.goal → ⊥) (ts : List Trip) (order : InOrder w shut a ts) (end : (s', v') ≡ toured lined (λ v s t. quested v (line s t.path) t) (λ v. is_some v.line) s v ts) where
+module _ {S : Type 0} (lets : S → List Quad → Bool) (lined : S → List Quad → S) (line : S → List Quad → Option Coefficients) (sharp : (s : S) (p : List Quad) → is_some (line s p) ≡ lets s p) (steady : (s : S) (p q : List Quad) → lets (lined s p) q ≡ lets s q) (w : World) (inside : Inside w) (lawful : Lawful w) (s s' : S) (same : w.lets ≡ lets s) (v v' : Quest) (fresh : v.found ≡ None) (shut : Numbers) (a : ℕ) (low : a < w.rooms) (apart : a ≡ v.goal → ⊥) (ts : List Trip) (order : InOrder w shut a ts) (end : (s', v') ≡ toured lined (λ v s t. quested v (line s t.path) t) (λ v. is_some v.found) s v ts) where
   abbrev answer : List Quad → Option Coefficients
   answer = line (asked_all lined s (ahead (leads w v.goal) ts))
 
   abbrev Ends : Quest → Type 0
-  Ends q = Told w shut a v.goal answer q.line (take q.count q.doors) × (q.count < w.rooms) × (length q.doors ≡ 256)
+  Ends q = Told w shut a v.goal answer q.found × IfSome q.found (λ u. length u.doors.items < w.rooms)
 
   missed : first (leads w v.goal) ts ≡ None → Ends v
-  missed h = (
-    subst (λ (o : Option Coefficients). Told w shut a v.goal answer o (take v.count v.doors)) (sym fresh)
-        (none_true w lawful shut a v.goal apart ts order h),
-    omega arith,
-    long,
-  )
+  missed h =
+      subst (λ (o : Option Found). Told w shut a v.goal answer o × IfSome o (λ u. length u.doors.items < w.rooms)) (sym fresh)
+      (none_true w lawful shut a v.goal apart ts order h, tt)
 
   found : (t : Trip) (l : Coefficients) → first (leads w v.goal) ts ≡ Some t → answer t.path ≡ Some l → Ends (kept v l t.doors)
   found t l h its =
       let f = first_walk w lawful shut a v.goal apart ts order t h in
-      let short : length t.doors < w.rooms = walk_short w inside a t.doors v.goal t.path low f.walk in
-      let whole : over t.doors v.doors ≡ t.doors ++ drop (length t.doors) v.doors = over_all t.doors v.doors (omega arith) in
-      let back : take (length t.doors) (over t.doors v.doors) ≡ t.doors =
-      ap (take (length t.doors)) whole ∙ take_at t.doors (drop (length t.doors) v.doors) (length t.doors) refl in (
-        (t.path, subst (λ (ks : List ℕ). FirstWalk w shut a v.goal ks t.path) (sym back) f, its),
-        short,
-        ap length whole ∙ length-append t.doors (drop (length t.doors) v.doors) ∙ ap (λ n. length t.doors + n) (length-drop (length t.doors) v.doors) ∙ omega arith,
-      )
+      ((t.path, f, its), walk_short w inside a t.doors v.goal t.path low f.walk)
 
   pub quest_ends : Ends v' × (s' ≡ asked_all lined s (until (leads w v.goal) ts))
   quest_ends =

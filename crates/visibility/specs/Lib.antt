@@ -5,7 +5,6 @@ pub mod Walks
 pub mod Steps
 pub mod Trips
 pub mod Indexes
-pub mod Copying
 pub mod Quests
 pub mod Witnesses
 pub mod Questions

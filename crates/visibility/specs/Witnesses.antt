@@ -6,8 +6,8 @@
 --                     ks, with the path p, is the first open walk from a to b in dictionary order whose path has P
 --   FirstWalk ..     the same, where P is that the path is let through
 --   no_witness w a b n   the grounds of refusal that are known before the search, where the caller's space has n places
---   Told w shut a b f o ks   what a search found: nothing, and then b is not in the true row of a; or a line, and then ks is the first
---                     walk, and f of its path is the line
+--   Told w shut a b f o   what a search found: nothing, and then b is not in the true row of a; or a walk with its line, and then it
+--                     is the first, and f of its path is the line
 --   Witnessed w shut a b f o r xs ys
 --                     what a witness call answers, and what it makes of the caller's space xs: a ground o is the answer, and the space
 --                     stays; else where no walk is let through `NoLine` is, and the space stays; else the first walk is written into
@@ -18,6 +18,7 @@ use Rattle.plane.specs.Limits.{InLimits}
 use Rattle.plane.specs.Separation.{Coefficients, Proper, Separates}
 use Rattle.visibility.specs.declared.refusal.Refusal.{Refusal}
 use Rattle.visibility.specs.declared.refusal.Refusal.TheVariants.{NoSuchRoom, SameRoomTwice, SpaceTooShort, NoLine}
+use Rattle.visibility.specs.declared.quest.Found.{Found}
 use Rattle.visibility.specs.declared.sightline.Sightline.{Sightline}
 use Rattle.visibility.specs.Orders.{Before}
 use Rattle.visibility.specs.Sets.{Numbers}
@@ -52,9 +53,9 @@ no_witness w a b n =
     (cond (a == b) (Some SameRoomTwice) (cond (nat_lt (n + 1) w.rooms) (Some SpaceTooShort) None)) (Some NoSuchRoom))
     (Some NoSuchRoom)
 
-abbrev pub Told : World → Numbers → ℕ → ℕ → (List Quad → Option Coefficients) → Option Coefficients → List ℕ → Type 0
-Told w shut a b f None ks = TrueRow w shut a b → ⊥
-Told w shut a b f (Some l) ks = (p : List Quad) × FirstWalk w shut a b ks p × (f p ≡ Some l)
+abbrev pub Told : World → Numbers → ℕ → ℕ → (List Quad → Option Coefficients) → Option Found → Type 0
+Told w shut a b f None = TrueRow w shut a b → ⊥
+Told w shut a b f (Some v) = (p : List Quad) × FirstWalk w shut a b v.doors.items p × (f p ≡ Some v.line)
 
 pub record Granted (w : World) (shut : Numbers) (a b : ℕ) (f : List Quad → Option Coefficients) (v : Sightline) (xs ys : List ℕ) : Type 0 where
   pub doorways : List ℕ

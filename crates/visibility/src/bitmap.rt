@@ -6,47 +6,34 @@ ghost use Rattle.visibility.specs.States.{world_of, state_of, ByGround};
 
 use crate::refusal::Refusal;
 use crate::table::Table;
+use arrayvec::ArrayVec;
 use maps::map::Map;
 use stabbing::stabber::Stabber;
 
 // The longest heading is that of 256 rooms.
 const HEADING: usize = 11;
 
-// The bytes of a heading, and how many of them there are.
-#[derive(Clone, Copy)]
-struct Heading {
-    bytes: [u8; HEADING],
-    len: usize,
-}
-
-impl Heading {
-    // The heading of a bitmap of n by n pixels.
-    fn new(n: usize) -> Heading
-        requires { n ≤ most_rooms }
-        ensures value { take result.len result.bytes ≡ heading n }
-        ensures long { result.len ≡ length (heading n) }
-        ensures bound { result.len ≤ 11 }
-    {
-        let a = b'0' + (n / 100) as u8;
-        let b = b'0' + (n / 10 % 10) as u8;
-        let c = b'0' + (n % 10) as u8;
-        if n < 10 {
-            Heading {
-                bytes: [b'P', b'4', b'\n', c, b' ', c, b'\n', 0, 0, 0, 0],
-                len: 7,
-            }
-        } else if n < 100 {
-            Heading {
-                bytes: [b'P', b'4', b'\n', b, c, b' ', b, c, b'\n', 0, 0],
-                len: 9,
-            }
-        } else {
-            Heading {
-                bytes: [b'P', b'4', b'\n', a, b, c, b' ', a, b, c, b'\n'],
-                len: 11,
-            }
-        }
+// The heading of a bitmap of n by n pixels.
+fn heading(n: usize) -> ArrayVec<u8, HEADING>
+    requires { n ≤ most_rooms }
+    ensures { result.items ≡ heading n }
+{
+    let a = b'0' + (n / 100) as u8;
+    let b = b'0' + (n / 10 % 10) as u8;
+    let c = b'0' + (n % 10) as u8;
+    let mut text = ArrayVec::from([b'P', b'4', b'\n', a, b, c, b' ', a, b, c, b'\n']);
+    if n >= 100 {
+        return text;
     }
+    // A number has no zeros in front.
+    text.remove(7);
+    text.remove(3);
+    if n >= 10 {
+        return text;
+    }
+    text.remove(6);
+    text.remove(3);
+    text
 }
 
 impl<M: Map, S: Stabber> Table<M, S> {
@@ -60,13 +47,14 @@ impl<M: Map, S: Stabber> Table<M, S> {
         if !self.rows.all_filled(n) {
             return Err(Refusal::NotFilled);
         }
-        let heading = Heading::new(n);
-        let len = heading.len + n * ((n + 7) / 8);
+        let heading = heading(n);
+        let start = heading.len();
+        let len = start + n * ((n + 7) / 8);
         if space.len() < len {
             return Err(Refusal::SpaceTooShort);
         }
-        space[0..heading.len].copy_from_slice(&heading.bytes[0..heading.len]);
-        self.rows.write(n, &mut space[heading.len..len]);
+        space[..start].copy_from_slice(heading.as_slice());
+        self.rows.write(n, &mut space[start..len]);
         Ok(len)
     }
 }

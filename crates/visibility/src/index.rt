@@ -6,12 +6,18 @@ use crate::row::{DOORWAYS, ROOMS};
 use maps::doorway::{Doorway, Room};
 use maps::map::Map;
 
-// Where to look for a room's doorways, by rising number: the first, and after each doorway the next of its near and of its far room.
+// The doorways that come next after one: of its near and of its far room.
+#[derive(Clone, Copy)]
+pub(crate) struct Next {
+    near: usize,
+    far: usize,
+}
+
+// Where to look for a room's doorways, by rising number: the first, and those that come next after each doorway.
 #[derive(Clone, Copy)]
 pub(crate) struct Index {
     first: [usize; ROOMS],
-    near: [usize; DOORWAYS],
-    far: [usize; DOORWAYS],
+    next: [Next; DOORWAYS],
 }
 
 // The number n for each room.
@@ -21,11 +27,11 @@ fn for_rooms(n: usize) -> [usize; ROOMS]
     [n; ROOMS]
 }
 
-// A number for each doorway.
-fn for_doorways() -> [usize; DOORWAYS]
+// A place for each doorway.
+fn for_doorways() -> [Next; DOORWAYS]
     ensures { length result ≡ 2048 }
 {
-    [0; DOORWAYS]
+    [Next { near: 0, far: 0 }; DOORWAYS]
 }
 
 impl Index {
@@ -36,10 +42,10 @@ impl Index {
     {
         let near = doorway.near as usize;
         let far = doorway.far as usize;
-        let next_near = self.first[near];
-        let next_far = self.first[far];
-        self.near[k] = next_near;
-        self.far[k] = next_far;
+        self.next[k] = Next {
+            near: self.first[near],
+            far: self.first[far],
+        };
         self.first[near] = k;
         self.first[far] = k;
     }
@@ -49,9 +55,8 @@ impl Index {
     {
         let count = map.doorway_count();
         let first = for_rooms(count);
-        let near = for_doorways();
-        let far = for_doorways();
-        let mut index = Index { first, near, far };
+        let next = for_doorways();
+        let mut index = Index { first, next };
         for k in (0..count).rev() {
             if let Some(doorway) = map.doorway(k) {
                 index.enter(k, &doorway);
@@ -77,9 +82,9 @@ impl Index {
         match map.doorway(k) {
             Some(doorway) => {
                 if doorway.near == here {
-                    self.near[k]
+                    self.next[k].near
                 } else if doorway.far == here {
-                    self.far[k]
+                    self.next[k].far
                 } else {
                     k + 1
                 }

@@ -4,7 +4,6 @@
 pub mod bitmap;
 pub mod call;
 pub mod calls;
-pub mod copying;
 pub mod deck;
 pub mod desk;
 pub mod desks;

@@ -1,42 +1,43 @@
 // The search for the first walk to a room.
-ghost use Rattle.std.specs.Prelude.{◌≡◌, length, is_some, None};
+ghost use Rattle.std.specs.Prelude.{◌≡◌, ◌≤◌, length, is_some, None};
 ghost use Rattle.visibility.specs.Quests.{quested, kept};
 ghost use Rattle.std.proofs.Common.{rules};
 
-use crate::copying::copy;
 use crate::row::ROOMS;
 use crate::visitor::Visitor;
+use arrayvec::ArrayVec;
 use maps::doorway::Room;
 use plane::quad::Quad;
 use stabbing::stabber::Sharp;
 
-// Wants a walk to the room `goal` that has a line, and keeps the line and the doorways of the first.
-#[derive(Clone, Copy)]
+// A walk to the goal: a line that separates its path, and its doorways.
+#[derive(Drop)]
+pub(crate) struct Found {
+    pub line: (i32, i32, i32),
+    pub doors: ArrayVec<usize, ROOMS>,
+}
+
+// Wants a walk to the room `goal` that has a line, and keeps the first.
+#[derive(Drop)]
 pub(crate) struct Quest {
     pub goal: Room,
-    pub line: Option<(i32, i32, i32)>,
-    pub count: usize,
-    pub doors: [usize; ROOMS],
+    pub found: Option<Found>,
 }
 
 impl Quest {
     pub(crate) fn new(goal: Room) -> Quest
-        ensures { (result.goal ≡ goal) × (result.line ≡ None) × (result.count ≡ 0) × (length result.doors ≡ 256) }
+        ensures { (result.goal ≡ goal) × (result.found ≡ None) }
     {
-        Quest {
-            goal,
-            line: None,
-            count: 0,
-            doors: [0; ROOMS],
-        }
+        Quest { goal, found: None }
     }
 
     fn keep(&mut self, line: (i32, i32, i32), doors: &[usize])
+        requires { length doors.now ≤ 256 }
         ensures { self.new ≡ kept self.old line doors.now }
     {
-        self.line = Some(line);
-        self.count = doors.len();
-        copy(doors, &mut self.doors);
+        if let Ok(doors) = ArrayVec::try_from(doors) {
+            self.found = Some(Found { line, doors });
+        }
     }
 }
 
@@ -47,7 +48,7 @@ impl<S: Sharp> Visitor<S> for Quest {
 
     ghost told = { λ v s t. quested v (S.Sharp.line s t.path) t };
 
-    ghost ended = { λ v. is_some v.line };
+    ghost ended = { λ v. is_some v.found };
 
     ghost steady = { Prim.search rules };
 
@@ -64,6 +65,6 @@ impl<S: Sharp> Visitor<S> for Quest {
     }
 
     fn has_ended(&self) -> bool {
-        self.line.is_some()
+        self.found.is_some()
     }
 }

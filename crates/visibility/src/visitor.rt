@@ -1,5 +1,5 @@
 // What a search does with each walk that it comes to.
-ghost use Rattle.std.specs.Prelude.{◌≡◌, Bool, List};
+ghost use Rattle.std.specs.Prelude.{◌≡◌, ◌≤◌, Bool, List, length};
 ghost use Rattle.plane.specs.declared.quad.Quad.{Quad};
 ghost use Rattle.visibility.specs.Trips.{Trip};
 
@@ -22,6 +22,7 @@ pub(crate) trait Visitor<S> {
 
     // Tells of the walk by its doorways, the room that it leads to and its path; answers whether it is let through.
     fn visit(&mut self, stabber: &mut S, doors: &[usize], room: Room, path: &[Quad]) -> bool
+        requires { length doors.now ≤ 256 }
         ensures value { result ≡ lets stabber.old path.now }
         ensures stabber { stabber.new ≡ heard stabber.old path.now }
         ensures after { self.new ≡ told self.old stabber.old (record { doors = doors.entry.now; room = room; path = path.now }) };

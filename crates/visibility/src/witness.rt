@@ -1,5 +1,5 @@
 // Witnesses: the first walk between two rooms that has a line.
-ghost use Rattle.std.specs.Prelude.{◌≡◌, ◌<◌, ◌≤◌, [], length, take, is_some, if◌then◌else◌, ◌≢◌};
+ghost use Rattle.std.specs.Prelude.{◌≡◌, ◌<◌, ◌≤◌, [], length, is_some, IfSome, if◌then◌else◌, ◌≢◌};
 ghost use Rattle.visibility.specs.Orders.{InOrder};
 ghost use Rattle.visibility.specs.Questions.{walks_from, asked_all};
 ghost use Rattle.visibility.specs.Sets.{marks};
@@ -7,8 +7,7 @@ ghost use Rattle.visibility.specs.States.{world_of, state_of};
 ghost use Rattle.visibility.specs.Witnesses.{leads, ahead, until, no_witness, Told, Witnessed};
 ghost use Rattle.visibility.specs.Worlds.{meant};
 
-use crate::copying::copy;
-use crate::quest::Quest;
+use crate::quest::{Found, Quest};
 use crate::refusal::Refusal;
 use crate::search::search_from;
 use crate::sightline::Sightline;
@@ -17,19 +16,25 @@ use maps::doorway::Room;
 use maps::map::Map;
 use stabbing::stabber::Sharp;
 
-// The first open walk from a to b that has a line, in the first places of `doors`, and the line; no line where there is no such walk.
-fn first_walk<M: Map, S: Sharp>(map: &M, stabber: &mut S, shut: &[bool], a: Room, b: Room) -> Quest
+// The first open walk from a to b that has a line, with that line.
+fn first_walk<M: Map, S: Sharp>(
+    map: &M,
+    stabber: &mut S,
+    shut: &[bool],
+    a: Room,
+    b: Room,
+) -> Option<Found>
     requires shut { length (M.Map.doorways map.now) ≤ length shut.now }
     requires room { a < M.Map.rooms map.now }
     requires apart { a ≢ b }
-    ensures value { Told (meant M.Map S.Stabber map.now stabber.old) (marks shut.now) a b (S.Sharp.line (asked_all S.Sharp.lined stabber.old (ahead (leads (meant M.Map S.Stabber map.now stabber.old) b) (walks_from (meant M.Map S.Stabber map.now stabber.old) (marks shut.now) a)))) result.line (take result.count result.doors) }
-    ensures count { (result.count < M.Map.rooms map.now) × (length result.doors ≡ 256) }
+    ensures value { Told (meant M.Map S.Stabber map.now stabber.old) (marks shut.now) a b (S.Sharp.line (asked_all S.Sharp.lined stabber.old (ahead (leads (meant M.Map S.Stabber map.now stabber.old) b) (walks_from (meant M.Map S.Stabber map.now stabber.old) (marks shut.now) a)))) result }
+    ensures short { IfSome result (λ v. length v.doors.items < M.Map.rooms map.now) }
     ensures asked { stabber.new ≡ asked_all S.Sharp.lined stabber.old (until (leads (meant M.Map S.Stabber map.now stabber.old) b) (walks_from (meant M.Map S.Stabber map.now stabber.old) (marks shut.now) a)) }
     ensures lets { S.Stabber.lets stabber.new ≡ S.Stabber.lets stabber.old }
 {
     let mut quest = Quest::new(b);
     search_from(map, stabber, &mut quest, shut, a);
-    quest
+    quest.found
 }
 
 impl<M: Map, S: Sharp> Table<M, S> {
@@ -53,19 +58,20 @@ impl<M: Map, S: Sharp> Table<M, S> {
         if space.len() < rooms - 1 {
             return Err(Refusal::SpaceTooShort);
         }
-        let quest = first_walk(
+        let found = first_walk(
             &self.map,
             &mut self.stabber,
             &self.closed,
             a as Room,
             b as Room,
         );
-        match quest.line {
-            Some(line) => {
-                copy(&quest.doors[0..quest.count], space);
+        match found {
+            Some(walk) => {
+                let doorways = walk.doors.len();
+                space[..doorways].copy_from_slice(walk.doors.as_slice());
                 Ok(Sightline {
-                    line,
-                    doorways: quest.count,
+                    line: walk.line,
+                    doorways,
                 })
             }
             None => Err(Refusal::NoLine),

@@ -1,6 +1,5 @@
-use Rattle.std.proofs.Common.{refl}
 use Rattle.visibility.proofs.Numbers.{marks_none}
 use Rattle.visibility.proofs.rows.no_rooms.Goals as goal
 
-pub returns : goal.returns
-returns c = record { value = marks_none 256; long = refl }
+pub returns-clause-value : goal.returns-clause-value
+returns-clause-value c = marks_none 256

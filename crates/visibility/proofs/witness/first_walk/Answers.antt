@@ -1,4 +1,4 @@
-use Rattle.std.proofs.Common.{ℕ, [], take, refl, ap, ◌∙◌, subst}
+use Rattle.std.proofs.Common.{ℕ, [], refl, ap, ◌∙◌, subst}
 use Rattle.visibility.specs.Sets.{only, marks}
 use Rattle.visibility.specs.Questions.{due, asked_all}
 use Rattle.visibility.specs.Witnesses.{leads, ahead, until, Told}
@@ -19,12 +19,12 @@ returns g c =
     let fresh = c.new-quest.ensures in
     let order = in_order w shut (g.met.M.Map.inside m) (g.met.S.Stabber.prefix s) (empty_let (lets s) (g.met.S.Stabber.stabbed s)) a in
     let ends = quest_ends lets g.S.Sharp.lined g.S.Sharp.line g.met.S.Sharp.sharp g.met.S.Sharp.steady w
-    (g.met.M.Map.inside m) (g.met.S.Stabber.prefix s) (g.met.M.Map.bounded m)
-    s c.search_from.new.stabber refl c.new-quest.result c.search_from.new.visitor fresh.1 fresh.2 fresh.3
+    (g.met.M.Map.inside m) (g.met.S.Stabber.prefix s)
+    s c.search_from.new.stabber refl c.new-quest.result c.search_from.new.visitor fresh.1
     shut a c.requires.room (λ e. c.requires.apart (e ∙ fresh.0)) (due w shut (only a) a [] []) order c.search_from.ensures.toured in
     record {
-      value = subst (λ (b : ℕ). Told w shut a b (g.S.Sharp.line (asked_all g.S.Sharp.lined s (ahead (leads w b) (due w shut (only a) a [] [])))) c.search_from.new.visitor.line (take c.search_from.new.visitor.count c.search_from.new.visitor.doors)) fresh.0 ends.0.0;
-      count = (ends.0.1, ends.0.2);
+      value = subst (λ (b : ℕ). Told w shut a b (g.S.Sharp.line (asked_all g.S.Sharp.lined s (ahead (leads w b) (due w shut (only a) a [] [])))) c.search_from.new.visitor.found) fresh.0 ends.0.0;
+      short = ends.0.1;
       asked = ends.1 ∙ ap (λ (b : ℕ). asked_all g.S.Sharp.lined s (until (leads w b) (due w shut (only a) a [] []))) fresh.0;
       lets = c.search_from.ensures.lets;
     }

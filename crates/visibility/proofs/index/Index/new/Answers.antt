@@ -1,15 +1,15 @@
 use Rattle.std.proofs.Common.{◌≡◌, ℕ, ◌+◌, ◌-◌, replicate, sym, ap, ◌∙◌, subst, arith}
 use Rattle.visibility.specs.declared.index.Index.{Index}
-use Rattle.visibility.proofs.Indexing.{Entered, entered_none, entered_more, entered_all, missing}
+use Rattle.visibility.proofs.Indexing.{Entered, entered_none, entered_more, entered_all}
 use Rattle.visibility.proofs.Steps.{all_nth}
 use Rattle.visibility.proofs.index.Index.new.Goals as goal
 
 pub loop-k-init : goal.loop-k-init
 loop-k-init g c =
     let ds = g.M.Map.doorways c.args.map.now in
-    let x : Index = record { first = c.for_rooms-first.result; near = c.for_doorways-near.result; far = c.for_doorways-far.result } in
+    let x : Index = record { first = c.for_rooms-first.result; next = c.for_doorways-next.result } in
     subst (λ (m : ℕ). Entered ds m x) (sym c.doorway_count-count.ensures)
-    (entered_none ds x (c.for_rooms-first.ensures ∙ ap (replicate 256) c.doorway_count-count.ensures) c.for_doorways-near.ensures c.for_doorways-far.ensures)
+    (entered_none ds x (c.for_rooms-first.ensures ∙ ap (replicate 256) c.doorway_count-count.ensures) c.for_doorways-next.ensures)
 
 pub loop-k-preserved-in-Some : goal.loop-k-preserved-in-Some
 loop-k-preserved-in-Some g c =
@@ -25,11 +25,6 @@ loop-k-preserved-in-Some g c =
     let was : Entered ds (k + 1) x = subst (λ (m : ℕ). Entered ds m x) now c.loop-k.invariant in
     subst (Entered ds k) (sym c.enter.ensures)
     (entered_more ds k x d is (omega (arith, c.loop-k.auto.k, c.loop-k-test.true, c.doorway_count-count.ensures)) (omega (arith, within.0)) (omega (arith, within.1)) was)
-
-pub loop-k-preserved : goal.loop-k-preserved
-loop-k-preserved g c =
-    absurd (missing (g.M.Map.doorways c.args.map.now) (c.loop-k.k - 1) (sym c.in_default.ensures)
-    (omega (arith, c.loop-k.auto.k, c.loop-k-test.true, c.doorway_count-count.ensures)))
 
 pub returns : goal.returns
 returns g c =

@@ -1,5 +1,4 @@
-use Rattle.std.proofs.Common.{◌≡◌, ◌+◌, Bool, true, false, cond, sym, ap, ◌∙◌, arith}
-use Rattle.visibility.specs.Limits.{most_rooms}
+use Rattle.std.proofs.Common.{◌≡◌, ◌+◌, Bool, true, false, cond, sym, ap, arith}
 use Rattle.visibility.specs.Bits.{shown}
 use Rattle.visibility.specs.Sets.{number}
 use Rattle.visibility.proofs.Numbers.{number_more, number_none}
@@ -23,8 +22,3 @@ loop-room-preserved c =
           let e = ap (λ (b : Bool). cond b 1 0 + number c.loop-room.room s) here in
           (omega (arith, w.count-is, c.loop-room.invariant.0), omega (arith, w.count-is, more, e, c.loop-room.invariant.1))
     ]
-
-pub returns : goal.returns
-returns c =
-    let ended : c.loop-room.room ≡ most_rooms = omega arith in
-    c.loop-room.invariant.1 ∙ ap (λ n. number n (shown c.args.self.now.bytes)) ended

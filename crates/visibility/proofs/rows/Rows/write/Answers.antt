@@ -1,16 +1,11 @@
-use Rattle.std.proofs.Common.{◌≡◌, ℕ, ◌*◌, ◌<◌, ◌≤◌, length, take, sym, ap, ◌∙◌, subst, zero-mul, arith}
-use Rattle.std.proofs.lemmas.List.{take_all, length-take, get_or-take}
+use Rattle.std.proofs.Common.{ℕ, ◌*◌, ◌<◌, ◌≤◌, length, take, sym, ap, ◌∙◌, zero-mul, arith}
+use Rattle.std.proofs.lemmas.List.{length-take, get_or-take}
 use Rattle.visibility.specs.declared.row.Row.{Row}
 use Rattle.visibility.specs.Bits.{shown}
-use Rattle.visibility.specs.Bitmaps.{width, packed, pixels}
+use Rattle.visibility.specs.Bitmaps.{width, packed}
 use Rattle.visibility.specs.Sights.{sight}
 use Rattle.visibility.proofs.Bitmaps.{pixels_none, part_within, part_written}
 use Rattle.visibility.proofs.rows.Rows.write.Goals as goal
-
-pub slice_bounds-write-end : goal.slice_bounds-write-end
-slice_bounds-write-end c =
-    let l : c.loop-a.a < c.args.n = omega (arith, c.loop-a-test.true, length-take c.args.n c.args.self.now.rows) in
-    omega (arith, part_within c.loop-a.a c.args.n (width c.args.n) l)
 
 pub loop-a-init : goal.loop-a-init
 loop-a-init c =
@@ -24,10 +19,3 @@ loop-a-preserved c =
     let l : c.loop-a.a * width c.args.n ≤ length c.loop-a.space = omega (arith, part_within c.loop-a.a c.args.n w k) in
     part_written c.args.n c.loop-a.a _ (sight c.args.self.now.rows) c.loop-a.space c.write.new.part l c.loop-a.invariant
     (c.write.ensures ∙ ap (λ (r : Row). packed c.args.n (shown r.bytes)) (get_or-take c.args.n c.args.self.now.rows c.loop-a.a _ k))
-
-pub returns : goal.returns
-returns c =
-    let w = width c.args.n in
-    let done : c.loop-a.a ≡ c.args.n = omega (arith, length-take c.args.n c.args.self.now.rows) in
-    sym (take_all (c.args.n * w) c.loop-a.space (omega arith))
-    ∙ subst (λ (k : ℕ). take (k * w) c.loop-a.space ≡ pixels c.args.n k (sight c.args.self.now.rows)) done c.loop-a.invariant

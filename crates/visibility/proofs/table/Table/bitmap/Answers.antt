@@ -1,4 +1,4 @@
-use Rattle.std.proofs.Common.{◌≡◌, ℕ, ◌+◌, ◌-◌, ◌*◌, true, ◌++◌, length, take, drop, sym, refl, ap, ◌∙◌, arith}
+use Rattle.std.proofs.Common.{◌≡◌, ℕ, ◌+◌, ◌-◌, ◌*◌, true, ◌++◌, length, drop, sym, refl, ap, ◌∙◌, arith}
 use Rattle.visibility.specs.Bitmaps.{every, width, heading, pixels, bitmap, no_bitmap}
 use Rattle.visibility.specs.Sets.{marks}
 use Rattle.visibility.specs.Sights.{sight}
@@ -18,7 +18,7 @@ returns-then-space-len g c =
     let counted = c.room_count-n.ensures in
     let full : every n (marks t.rows.filled) ≡ true =
     ap (λ (k : ℕ). every k (marks t.rows.filled)) (sym counted) ∙ sym c.if-not-all_filled.ensures in
-    let size = bitmap_size _ n _ (sight t.rows.rows) counted c.new-heading.ensures.long in
+    let size = bitmap_size _ n _ (sight t.rows.rows) counted (c.len-start.ensures.value ∙ ap length c.heading-heading.ensures) in
     record {
       value = refused (no_bitmap w (state_of t) (length s)) (state_of t) (state_of t) _ SpaceTooShort
           (bitmap_short w (state_of t) (length s) full (omega (arith, size))) refl;
@@ -34,24 +34,20 @@ returns g c =
     let w = world n (g.M.Map.doorways t.map) (g.S.Stabber.lets t.stabber) in
     let v = sight t.rows.rows in
     let m = c.room_count-n.result in
-    let at = c.new-heading.result.len in
+    let at = c.len-start.result in
     let len = at + m * width m in
     let counted = c.room_count-n.ensures in
-    let long = c.new-heading.ensures.long in
+    let long = c.len-start.ensures.value ∙ ap length c.heading-heading.ensures in
     let full : every n (marks t.rows.filled) ≡ true =
     ap (λ (k : ℕ). every k (marks t.rows.filled)) (sym counted) ∙ sym c.if-not-all_filled.ensures in
     let size = bitmap_size m n at v counted long in
-    let from_start : at - 0 ≡ at = omega arith in
     let up_to_end : at + (len - at) ≡ len = omega arith in
     let head : c.copy_from_slice.new.self ≡ heading n =
-    c.copy_from_slice.ensures.after
-    ∙ ap (λ (k : ℕ). take k c.new-heading.result.bytes) from_start
-    ∙ c.new-heading.ensures.value
-    ∙ ap heading counted in
+    c.copy_from_slice.ensures.after ∙ c.as_slice.ensures.value ∙ c.heading-heading.ensures ∙ ap heading counted in
     let rows : c.write.new.space ≡ pixels n n v = c.write.ensures ∙ ap (λ (k : ℕ). pixels k k v) counted in
     let whole =
-    laid (heading n) (pixels n n v) s c.copy_from_slice.new.self c.write.new.space at (at - 0) (len - at)
-    head rows (long ∙ ap (λ (k : ℕ). length (heading k)) counted) from_start
+    laid (heading n) (pixels n n v) s c.copy_from_slice.new.self c.write.new.space at at (len - at)
+    head rows (long ∙ ap (λ (k : ℕ). length (heading k)) counted) refl
     ∙ ap (λ (k : ℕ). bitmap n v ++ drop k s) up_to_end in
     record {
       value = granted (no_bitmap w (state_of t) (length s)) (state_of t) (state_of t) (λ k. k ≡ length (bitmap n v)) len

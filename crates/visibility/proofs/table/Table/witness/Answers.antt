@@ -1,7 +1,4 @@
-use Rattle.std.proofs.Common.{◌≡◌, ℕ, [], length, take, Some, None, Option, sym, refl, ap, ◌∙◌, subst, inl, inr, ⊎_elim, arith}
-use Rattle.plane.specs.Separation.{Coefficients}
-use Rattle.visibility.specs.Copying.{over}
-use Rattle.std.proofs.lemmas.List.{length-take-le}
+use Rattle.std.proofs.Common.{◌≡◌, ℕ, List, ◌++◌, drop, [], length, Some, None, refl, ap, ◌∙◌, subst, inl, inr, ⊎_elim, arith}
 use Rattle.visibility.specs.declared.refusal.Refusal.TheVariants.{NoSuchRoom, SameRoomTwice, SpaceTooShort}
 use Rattle.visibility.specs.Questions.{due, asked_all}
 use Rattle.visibility.specs.Sets.{only, marks}
@@ -88,21 +85,18 @@ returns-in-Some g c =
     let n : c.room_count-rooms.result ≡ g.M.Map.rooms t.map = c.room_count-rooms.ensures in
     let some = g.met.M.Map.inhabited t.map in
     let h : o ≡ None = witness_free w c.args.a c.args.b (length c.args.space.now) (omega arith) (omega arith) c.if-a-b.false (omega arith) in
-    let q = c.first_walk-quest.result in
     record {
       value =
-          let ks = take q.count q.doors in
-          let long : length ks ≡ q.count = length-take-le q.count q.doors (omega (arith, c.first_walk-quest.ensures.count.0, c.first_walk-quest.ensures.count.1, g.met.M.Map.bounded t.map)) in
-          witness_found w shut c.args.a c.args.b f o c.args.space.now (record { line = c.in-Some.line; doorways = q.count }) ks c.copy.new.space h
-          (subst (λ (x : Option Coefficients). Told w shut c.args.a c.args.b f x ks) c.in-Some.is c.first_walk-quest.ensures.value)
-          (λ p e. g.met.S.Sharp.separates _ p c.in-Some.line e)
-          (sym long) (omega (arith, long, c.first_walk-quest.ensures.count.0))
-          (c.copy.ensures ∙ ap (λ (j : ℕ). over (take j q.doors) c.args.space.now) (omega arith));
-      asked = asked_granted o s (asked_all g.S.Sharp.lined s (until (leads w c.args.b) ts)) _ h c.first_walk-quest.ensures.asked;
+          witness_found w shut c.args.a c.args.b f o c.args.space.now c.in-Some.walk c.len-doorways.result _ h
+          (subst (Told w shut c.args.a c.args.b f) c.in-Some.is c.first_walk-found.ensures.value)
+          (λ p e. g.met.S.Sharp.separates _ p c.in-Some.walk.line e)
+          c.len-doorways.ensures.value
+          (ap (λ (v : List ℕ). v ++ drop c.len-doorways.result c.args.space.now) (c.copy_from_slice.ensures.after ∙ c.as_slice.ensures.value));
+      asked = asked_granted o s (asked_all g.S.Sharp.lined s (until (leads w c.args.b) ts)) _ h c.first_walk-found.ensures.asked;
       order = order;
       same = refl;
       map = refl;
-      lets = c.first_walk-quest.ensures.lets;
+      lets = c.first_walk-found.ensures.lets;
     }
 
 pub returns-in-None : goal.returns-in-None
@@ -118,13 +112,12 @@ returns-in-None g c =
     let n : c.room_count-rooms.result ≡ g.M.Map.rooms t.map = c.room_count-rooms.ensures in
     let some = g.met.M.Map.inhabited t.map in
     let h : o ≡ None = witness_free w c.args.a c.args.b (length c.args.space.now) (omega arith) (omega arith) c.if-a-b.false (omega arith) in
-    let q = c.first_walk-quest.result in
     record {
       value = witness_none w shut c.args.a c.args.b f o c.args.space.now h
-          (subst (λ (x : Option Coefficients). Told w shut c.args.a c.args.b f x (take q.count q.doors)) c.in-None.is c.first_walk-quest.ensures.value);
-      asked = asked_granted o s (asked_all g.S.Sharp.lined s (until (leads w c.args.b) ts)) _ h c.first_walk-quest.ensures.asked;
+          (subst (Told w shut c.args.a c.args.b f) c.in-None.is c.first_walk-found.ensures.value);
+      asked = asked_granted o s (asked_all g.S.Sharp.lined s (until (leads w c.args.b) ts)) _ h c.first_walk-found.ensures.asked;
       order = order;
       same = refl;
       map = refl;
-      lets = c.first_walk-quest.ensures.lets;
+      lets = c.first_walk-found.ensures.lets;
     }
