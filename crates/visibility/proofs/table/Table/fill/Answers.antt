@@ -3,9 +3,8 @@ use Rattle.visibility.specs.Bits.{shown}
 use Rattle.visibility.specs.Sets.{marks}
 use Rattle.visibility.specs.Sights.{sight}
 use Rattle.visibility.specs.States.{world_of, State, state_of}
-use Rattle.visibility.proofs.Orders.{in_order}
+use Rattle.visibility.proofs.Orders.{searched}
 use Rattle.visibility.proofs.States.{fill_granted}
-use Rattle.visibility.proofs.TrueRows.{empty_let}
 use Rattle.visibility.proofs.table.Table.fill.Goals as goal
 
 pub returns-clause-value : goal.returns-clause-value
@@ -20,11 +19,9 @@ returns-clause-value g c =
 pub returns-clause-order : goal.returns-clause-order
 returns-clause-order g c =
     let t = c.args.self.now in
-    in_order (world_of g.M.Map g.S.Stabber t) (marks t.closed) (g.met.M.Map.inside t.map) (g.met.S.Stabber.prefix t.stabber)
-    (empty_let (g.S.Stabber.lets t.stabber) (g.met.S.Stabber.stabbed t.stabber)) c.args.a
+    searched (world_of g.M.Map g.S.Stabber t) (g.met.M.Map.inside t.map) (g.met.S.Stabber.prefix t.stabber) (g.met.S.Stabber.stabbed t.stabber) (marks t.closed) c.args.a
 
 pub returns-then-a-room_count-clause-order : goal.returns-then-a-room_count-clause-order
 returns-then-a-room_count-clause-order g c =
     let t = c.args.self.now in
-    in_order (world_of g.M.Map g.S.Stabber t) (marks t.closed) (g.met.M.Map.inside t.map) (g.met.S.Stabber.prefix t.stabber)
-    (empty_let (g.S.Stabber.lets t.stabber) (g.met.S.Stabber.stabbed t.stabber)) c.args.a
+    searched (world_of g.M.Map g.S.Stabber t) (g.met.M.Map.inside t.map) (g.met.S.Stabber.prefix t.stabber) (g.met.S.Stabber.stabbed t.stabber) (marks t.closed) c.args.a
