@@ -6,8 +6,8 @@ use Rattle.visibility.specs.declared.row.Row.{Row}
 use Rattle.visibility.proofs.States.{nth_some, granted, turn_free, marks_place}
 use Rattle.visibility.proofs.table.Table.turn.Goals as goal
 
-pub returns-else-self-k : goal.returns-else-self-k
-returns-else-self-k g c =
+pub returns : goal.returns
+returns g c =
     let t = c.args.self.now in
     let w = world_of g.M.Map g.S.Stabber t in
     let l = nth_some (g.M.Map.doorways c.args.self.now.map) c.args.k c.in-Some.doorway (sym c.in-Some.ensures) in
