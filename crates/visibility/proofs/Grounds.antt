@@ -1,14 +1,13 @@
 -- On which grounds a witness call is refused.
-use Rattle.std.proofs.Common.{◌≡◌, ℕ, ◌+◌, ◌<◌, ◌≤◌, cond, eqb, ltb, ◌⊎◌, List, length, is_some, Some, None, Ok, Err, Option, sym, refl, ap, ◌∙◌, subst, ⊎_elim, ◌++◌, drop}
+use Rattle.std.proofs.Common.{◌≡◌, ℕ, ◌+◌, ◌<◌, ◌≤◌, cond, eqb, ltb, ◌⊎◌, List, length, Some, None, Ok, Option, sym, ap, ◌∙◌, subst, ⊎_elim, ◌++◌, drop}
 use Rattle.std.proofs.lemmas.Bool.{lt-ltb, le-ltb, eq-eqb, ne_eqb, cond-true, cond-false, cases_lt}
 use Rattle.plane.specs.declared.quad.Quad.{Quad}
 use Rattle.plane.specs.Limits.{InLimits}
 use Rattle.plane.specs.Separation.{Coefficients, Proper, Separates}
 use Rattle.visibility.specs.declared.refusal.Refusal.{Refusal}
-use Rattle.visibility.specs.declared.refusal.Refusal.TheVariants.{NoSuchRoom, SameRoomTwice, SpaceTooShort, NoLine}
+use Rattle.visibility.specs.declared.refusal.Refusal.TheVariants.{NoSuchRoom, SameRoomTwice, SpaceTooShort}
 use Rattle.visibility.specs.declared.quest.Found.{Found}
 use Rattle.visibility.specs.Sets.{Numbers}
-use Rattle.visibility.specs.Walks.{TrueRow}
 use Rattle.visibility.specs.Witnesses.{no_witness, Told, Witnessed}
 use Rattle.visibility.specs.Worlds.{World}
 
@@ -42,20 +41,7 @@ module _ (w : World) (a b n : ℕ) where
       witness_free s =
           rooms_there ∙ cond-false (eqb a b) _ _ (ne_eqb a b ne) ∙ cond-false (ltb (n + 1) w.rooms) _ _ (le-ltb (n + 1) w.rooms s)
 
--- how a stabber stands after a call that was refused before the search, or not
-pub asked_refused : {S : Type 0} (o : Option Refusal) (e : Refusal) (s t : S) → o ≡ Some e → s ≡ cond (is_some o) s t
-asked_refused o e s t h = sym (cond-true (is_some o) s t (ap is_some h))
-
-pub asked_granted : {S : Type 0} (o : Option Refusal) (s t u : S) → o ≡ None → u ≡ t → u ≡ cond (is_some o) s t
-asked_granted o s t u h e = e ∙ sym (cond-false (is_some o) s t (ap is_some h))
-
 module _ (w : World) (shut : Numbers) (a b : ℕ) (f : List Quad → Option Coefficients) (o : Option Refusal) (xs : List ℕ) where
-  pub witness_refused : (e : Refusal) → o ≡ Some e → Witnessed w shut a b f o (Err e) xs xs
-  witness_refused e h = subst (λ (v : Option Refusal). Witnessed w shut a b f v (Err e) xs xs) (sym h) (refl, refl)
-
-  pub witness_none : o ≡ None → (TrueRow w shut a b → ⊥) → Witnessed w shut a b f o (Err NoLine) xs xs
-  witness_none h n = subst (λ (v : Option Refusal). Witnessed w shut a b f v (Err NoLine) xs xs) (sym h) (refl, n, refl)
-
   pub witness_found :
       (u : Found) (n : ℕ) (ys : List ℕ) → o ≡ None → Told w shut a b f (Some u)
       → ((p : List Quad) → f p ≡ Some u.line → Proper u.line × InLimits u.line × Separates u.line p)

@@ -3,15 +3,17 @@ use Rattle.std.proofs.Common.{◌≡◌, ℕ, zero, suc, ◌+◌, ◌<◌, Bool,
 use Rattle.std.specs.List.{range_with_len, flat_map}
 use Rattle.std.proofs.lemmas.Bool.{cases_Bool}
 use Rattle.plane.specs.declared.quad.Quad.{Quad}
+use Rattle.plane.specs.Limits.{Path}
+use Rattle.plane.specs.Separation.{Stabbed}
 use Rattle.visibility.specs.Orders.{In, Before, Rising, without_last, InOrder}
-use Rattle.visibility.specs.Questions.{tried, rest, due}
+use Rattle.visibility.specs.Questions.{tried, rest, due, walks_from}
 use Rattle.visibility.specs.Trips.{Trip}
 use Rattle.visibility.specs.Sets.{Numbers, only, with, free}
 use Rattle.visibility.specs.Steps.{onward}
 use Rattle.visibility.specs.Walks.{Walk, Open}
 use Rattle.visibility.specs.Worlds.{World, Inside, Lawful}
 use Rattle.visibility.proofs.Members.{in_append, joined_in, counting_in}
-use Rattle.visibility.proofs.TrueRows.{rest_continues, tried_begins, goes_rest}
+use Rattle.visibility.proofs.TrueRows.{rest_continues, tried_begins, goes_rest, empty_let}
 
 before_prefix : (ks xs ys : List ℕ) → Before xs ys → Before (ks ++ xs) (ks ++ ys)
 before_prefix [] xs ys h = h
@@ -96,3 +98,9 @@ module _ (w : World) (shut : Numbers) where
           };
       all = λ t d. walk_due t.doors t.room t.path d.not_empty d.walk d.all_open d.after_yes;
     }
+
+-- the questions about the walks from a room, where each path that some line separates is let through
+pub searched :
+    (w : World) → Inside w → Lawful w → ((p : List Quad) → Path p → Stabbed p → w.lets p ≡ true)
+    → (shut : Numbers) (a : ℕ) → InOrder w shut a (walks_from w shut a)
+searched w inside lawful stabbed shut a = in_order w shut inside lawful (empty_let w.lets stabbed) a

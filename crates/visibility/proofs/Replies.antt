@@ -149,9 +149,3 @@ replied_sharp w h (Shut x) r s t other k = k
 replied_sharp w h (Open x) r s t other k = k
 replied_sharp w h (Witness a b) r s t other k = absurd (other a b refl)
 replied_sharp w h Bitmap r s t other k = k
-
--- a space by its parts
-pub space_is :
-    (xs ys bs cs : List ℕ) → xs ≡ ys → bs ≡ cs
-    → ◌≡◌ {A = Space} (record { doorways = xs; bytes = bs }) (record { doorways = ys; bytes = cs })
-space_is xs ys bs cs e f = cc

@@ -76,16 +76,14 @@ impl<M: Map, S: Stabber> Table<M, S> {
         ensures owns { (self.new.map ≡ self.old.map) × (self.new.stabber ≡ self.old.stabber) }
     {
         let rooms = self.map.room_count();
-        match self.map.doorway(k) {
-            None => Err(Refusal::NoSuchDoorway),
-            Some(doorway) => {
-                if self.closed[k] == v {
-                    return Err(Refusal::Already);
-                }
-                self.closed[k] = v;
-                Ok(self.rows.unfill(rooms, doorway.near, doorway.far))
-            }
+        let Some(doorway) = self.map.doorway(k) else {
+            return Err(Refusal::NoSuchDoorway);
+        };
+        if self.closed[k] == v {
+            return Err(Refusal::Already);
         }
+        self.closed[k] = v;
+        Ok(self.rows.unfill(rooms, doorway.near, doorway.far))
     }
 
     // Shuts doorway k.

@@ -1,6 +1,6 @@
 // The doorways of each room, so that a search passes over all others.
-ghost use Rattle.std.specs.Prelude.{◌≡◌, ◌+◌, ◌<◌, length, replicate};
-ghost use Rattle.visibility.specs.Indexes.{Indexed, Passed, entered_in};
+ghost use Rattle.std.specs.Prelude.{◌≡◌, ◌<◌, length, replicate};
+ghost use Rattle.visibility.specs.Indexes.{Indexed, entered_in};
 
 use crate::row::{DOORWAYS, ROOMS};
 use maps::doorway::{Doorway, Room};
@@ -9,15 +9,15 @@ use maps::map::Map;
 // The doorways that come next after one: of its near and of its far room.
 #[derive(Clone, Copy)]
 pub(crate) struct Next {
-    near: usize,
-    far: usize,
+    pub near: usize,
+    pub far: usize,
 }
 
 // Where to look for a room's doorways, by rising number: the first, and those that come next after each doorway.
 #[derive(Clone, Copy)]
 pub(crate) struct Index {
-    first: [usize; ROOMS],
-    next: [Next; DOORWAYS],
+    pub first: [usize; ROOMS],
+    pub next: [Next; DOORWAYS],
 }
 
 // The number n for each room.
@@ -63,33 +63,5 @@ impl Index {
             }
         }
         index
-    }
-
-    // No doorway before this one has a side in the room.
-    pub(crate) fn begin<M: Map>(&self, map: &M, here: Room) -> usize
-        requires { Indexed (M.Map.doorways map.now) self.now }
-        ensures { Passed (M.Map.doorways map.now) here 0 result }
-    {
-        self.first[here as usize]
-    }
-
-    // No doorway after k and before this one has a side in the room.
-    pub(crate) fn after<M: Map>(&self, map: &M, here: Room, k: usize) -> usize
-        requires index { Indexed (M.Map.doorways map.now) self.now }
-        requires doorway { k < length (M.Map.doorways map.now) }
-        ensures { Passed (M.Map.doorways map.now) here (k + 1) result }
-    {
-        match map.doorway(k) {
-            Some(doorway) => {
-                if doorway.near == here {
-                    self.next[k].near
-                } else if doorway.far == here {
-                    self.next[k].far
-                } else {
-                    k + 1
-                }
-            }
-            None => k + 1,
-        }
     }
 }

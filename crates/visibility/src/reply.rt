@@ -26,7 +26,7 @@ impl<M: Map, S: Stabber> Table<M, S> {
             Call::Shut(k) => self.shut(k).map(Answer::Count),
             Call::Open(k) => self.open(k).map(Answer::Count),
             Call::Bitmap => self.bitmap(bytes).map(Answer::Written),
-            Call::Witness(a, b) => Ok(Answer::NotSharp),
+            Call::Witness(_, _) => Ok(Answer::NotSharp),
         }
     }
 

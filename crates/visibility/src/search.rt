@@ -5,7 +5,6 @@ ghost use Rattle.visibility.specs.Worlds.{world};
 ghost use Rattle.visibility.specs.Questions.{due, walks_from, toured};
 
 use crate::deck::Deck;
-use crate::step::onward;
 use crate::trail::Trail;
 use crate::visitor::Visitor;
 use maps::doorway::Room;
@@ -28,12 +27,12 @@ pub(crate) fn search<M: Map, S, V: Visitor<S>>(
     ensures toured { (stabber.new, visitor.new) ≡ toured V.Visitor.heard V.Visitor.told V.Visitor.ended stabber.old visitor.old (due (world (M.Map.rooms deck.now.map.now) (M.Map.doorways deck.now.map.now) (V.Visitor.lets stabber.old)) (marks deck.now.shut.now) (marks trail.old.entered) here trail.old.doors.items trail.old.path.items) }
 {
     let count = deck.map.doorway_count();
-    let mut k = deck.index.begin(deck.map, here);
+    let mut k = deck.begin(here);
     while k < count {
         if visitor.has_ended() {
             return;
         }
-        if let Some((room, quad)) = onward(deck.map, deck.shut, &trail.entered, here, k) {
+        if let Some((room, quad)) = deck.onward(&trail.entered, here, k) {
             trail.step(k, quad);
             if visitor.visit(stabber, trail.doors.as_slice(), room, trail.path.as_slice()) {
                 trail.entered[room as usize] = true;
@@ -42,7 +41,7 @@ pub(crate) fn search<M: Map, S, V: Visitor<S>>(
             }
             trail.back();
         }
-        k = deck.index.after(deck.map, here, k);
+        k = deck.after(here, k);
     }
 }
 

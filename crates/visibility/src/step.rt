@@ -3,6 +3,7 @@ ghost use Rattle.std.specs.Prelude.{◌≡◌, ◌<◌, ◌≤◌, length};
 ghost use Rattle.visibility.specs.Sets.{marks};
 ghost use Rattle.visibility.specs.Steps.{leave, onward};
 
+use crate::deck::Deck;
 use maps::doorway::{Doorway, Room};
 use maps::map::Map;
 use plane::quad::Quad;
@@ -20,25 +21,21 @@ pub fn leave(doorway: &Doorway, here: Room) -> Option<(Room, Quad)>
     }
 }
 
-// The same for doorway k, where it is open and leads to a room that was not entered yet.
-pub(crate) fn onward<M: Map>(
-    map: &M,
-    shut: &[bool],
-    entered: &[bool],
-    here: Room,
-    k: usize,
-) -> Option<(Room, Quad)>
-    requires shut { k < length shut.now }
-    requires entered { M.Map.rooms map.now ≤ length entered.now }
-    ensures { result ≡ onward (M.Map.doorways map.now) (marks shut.now) (marks entered.now) here k }
-{
-    if shut[k] {
-        return None;
+impl<'a, M: Map> Deck<'a, M> {
+    // The same for doorway k, where it is open and leads to a room that was not entered yet.
+    pub(crate) fn onward(&self, entered: &[bool], here: Room, k: usize) -> Option<(Room, Quad)>
+        requires shut { k < length self.now.shut.now }
+        requires entered { M.Map.rooms self.now.map.now ≤ length entered.now }
+        ensures { result ≡ onward (M.Map.doorways self.now.map.now) (marks self.now.shut.now) (marks entered.now) here k }
+    {
+        if self.shut[k] {
+            return None;
+        }
+        let doorway = self.map.doorway(k)?;
+        let (room, quad) = leave(&doorway, here)?;
+        if entered[room as usize] {
+            return None;
+        }
+        Some((room, quad))
     }
-    let doorway = map.doorway(k)?;
-    let (room, quad) = leave(&doorway, here)?;
-    if entered[room as usize] {
-        return None;
-    }
-    Some((room, quad))
 }

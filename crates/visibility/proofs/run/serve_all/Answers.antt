@@ -1,7 +1,5 @@
-use Rattle.std.proofs.Common.{◌<◌, ◌≤◌, Bool, List, ◌∷◌, reverse, length, get_or, take, ◌∙◌, subst, subst₂, arith}
-use Rattle.std.proofs.lemmas.List.{take_all, length-map, get_or_default}
-use Rattle.visibility.specs.declared.call.Call.{Call}
-use Rattle.visibility.specs.declared.order.Order.{Order}
+use Rattle.std.proofs.Common.{◌<◌, Bool, ◌∷◌, reverse, length, get_or, take, ◌∙◌, subst, subst₂, arith}
+use Rattle.std.proofs.lemmas.List.{get_or_default}
 use Rattle.visibility.specs.Histories.{Stands}
 use Rattle.visibility.specs.Replies.{Answered, calls_of}
 use Rattle.visibility.specs.Worlds.{World}
@@ -27,14 +25,3 @@ loop-order-preserved g c =
           (subst₂ (λ (z : World) (b : Bool). Stands z h s → Answered b z h o p) was.0 was.1 (c.serve.ensures.value h))
           (subst (λ (z : World). Stands z h s → Stands z (o.call ∷ h) t) was.0 (c.serve.ensures.after h)),
     )
-
-pub returns : goal.returns
-returns g c =
-    let calls = calls_of c.args.orders.now in
-    let ran = c.loop-order.invariant.2 in
-    let long : length calls ≤ c.loop-order.order-index = omega (arith, ran.3, length-map c.args.orders.now (λ (o : Order). o.call)) in
-    record {
-      answered = λ i l. ran.1 i (omega (arith, ran.3));
-      stands = subst (λ (h : List Call). Stands (g.D.Desk.world c.args.desk.now) (reverse h) (g.D.Desk.state c.loop-order.desk))
-          (take_all c.loop-order.order-index calls long) ran.0;
-    }

@@ -9,8 +9,8 @@ use Rattle.visibility.proofs.Bitmaps.{bitmap_size, bitmap_short, bitmap_granted,
 use Rattle.visibility.proofs.States.{refused, granted}
 use Rattle.visibility.proofs.table.Table.bitmap.Goals as goal
 
-pub returns-then-space-len : goal.returns-then-space-len
-returns-then-space-len g c =
+pub returns-then-space-len-clause-value : goal.returns-then-space-len-clause-value
+returns-then-space-len-clause-value g c =
     let t = c.args.self.now in
     let n = g.M.Map.rooms t.map in
     let s = c.args.space.now in
@@ -19,12 +19,8 @@ returns-then-space-len g c =
     let full : every n (marks t.rows.filled) ≡ true =
     ap (λ (k : ℕ). every k (marks t.rows.filled)) (sym counted) ∙ sym c.if-not-all_filled.ensures in
     let size = bitmap_size _ n _ (sight t.rows.rows) counted (c.len-start.ensures.value ∙ ap length c.heading-heading.ensures) in
-    record {
-      value = refused (no_bitmap w (state_of t) (length s)) (state_of t) (state_of t) _ SpaceTooShort
-          (bitmap_short w (state_of t) (length s) full (omega (arith, size))) refl;
-      after = refl;
-      format = tt;
-    }
+    refused (no_bitmap w (state_of t) (length s)) (state_of t) (state_of t) _ SpaceTooShort
+    (bitmap_short w (state_of t) (length s) full (omega (arith, size))) refl
 
 pub returns : goal.returns
 returns g c =

@@ -2,44 +2,12 @@ use Rattle.std.proofs.Common.{◌≡◌, ℕ, ◌<◌, List, length, set, sym, r
 use Rattle.visibility.specs.Sets.{marks, number, both}
 use Rattle.visibility.specs.Sights.{sight, touches}
 use Rattle.visibility.specs.States.{world_of, State, state_of, no_turn, Turns}
-use Rattle.visibility.specs.declared.refusal.Refusal.TheVariants.{NoSuchDoorway, Already}
 use Rattle.visibility.specs.declared.row.Row.{Row}
-use Rattle.visibility.proofs.States.{nth_some, nth_none, refused, granted, turn_missing, turn_already, turn_free, marks_place}
+use Rattle.visibility.proofs.States.{nth_some, granted, turn_free, marks_place}
 use Rattle.visibility.proofs.table.Table.turn.Goals as goal
 
-pub bounds-self-k : goal.bounds-self-k
-bounds-self-k g c =
-    let l = nth_some (g.M.Map.doorways c.args.self.now.map) c.args.k c.in-Some.doorway (sym c.in-Some.ensures) in
-    omega (arith, g.met.M.Map.few c.args.self.now.map)
-
-pub bounds-self-k-in-Some : goal.bounds-self-k-in-Some
-bounds-self-k-in-Some g c =
-    let l = nth_some (g.M.Map.doorways c.args.self.now.map) c.args.k c.in-Some.doorway (sym c.in-Some.ensures) in
-    omega (arith, g.met.M.Map.few c.args.self.now.map)
-
-pub returns-in-None : goal.returns-in-None
-returns-in-None g c =
-    let t = c.args.self.now in
-    let w = world_of g.M.Map g.S.Stabber t in
-    record {
-      value = refused (no_turn w (state_of t) c.args.k c.args.v) (state_of t) (state_of t) _ NoSuchDoorway
-          (turn_missing w (state_of t) c.args.k c.args.v (nth_none (g.M.Map.doorways t.map) c.args.k (sym c.in-None.ensures))) refl;
-      owns = (refl, refl);
-    }
-
-pub returns-then-self-k : goal.returns-then-self-k
-returns-then-self-k g c =
-    let t = c.args.self.now in
-    let w = world_of g.M.Map g.S.Stabber t in
-    let l = nth_some (g.M.Map.doorways c.args.self.now.map) c.args.k c.in-Some.doorway (sym c.in-Some.ensures) in
-    record {
-      value = refused (no_turn w (state_of t) c.args.k c.args.v) (state_of t) (state_of t) _ Already
-          (turn_already w (state_of t) c.args.k c.args.v l c.if-self-k.true) refl;
-      owns = (refl, refl);
-    }
-
-pub returns-else-self-k : goal.returns-else-self-k
-returns-else-self-k g c =
+pub returns : goal.returns
+returns g c =
     let t = c.args.self.now in
     let w = world_of g.M.Map g.S.Stabber t in
     let l = nth_some (g.M.Map.doorways c.args.self.now.map) c.args.k c.in-Some.doorway (sym c.in-Some.ensures) in
