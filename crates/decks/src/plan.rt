@@ -33,16 +33,12 @@ fn read_picture(text: &[u8]) -> Result<Plan, Fault>
     Ok(Plan::Grid(GridMap::new(size, &space)))
 }
 
-const ORIGIN: Corner = Corner {
-    at: Post { x: 0, y: 0 },
-};
-
 // A plan of polygons.
 fn read_polygons(text: &[u8]) -> Result<Plan, Fault>
     ensures { Polygons text.now result }
 {
     let mut doorways = [Passage::NONE; 2048];
-    let mut corners = [ORIGIN; 1024];
+    let mut corners = [Corner::ORIGIN; 1024];
     let mut numbers = [0u16; 4096];
     let counts = polygon::plans::read(text, &mut doorways, &mut corners, &mut numbers)?;
     let map = PolygonMap::new(counts.rooms, counts.doorways, &doorways);

@@ -16,6 +16,8 @@ const MOST_ROOMS: usize = 256;
 
 // What fills the places of a list that hold no doorway.
 impl Default for Doorway {
+    ghost is_default = { λ d. (d.near ≡ 0) × (d.far ≡ 1) };
+
     fn default() -> Doorway {
         let left = Post { x: 0, y: 1 };
         let right = Post { x: 0, y: 0 };

@@ -5,3 +5,10 @@ use crate::post::Post;
 pub struct Corner {
     pub at: Post,
 }
+
+impl Corner {
+    // The corner at (0, 0).
+    pub const ORIGIN: Corner = Corner {
+        at: Post { x: 0, y: 0 },
+    };
+}

@@ -13,16 +13,11 @@ use text::{Fault, Ground};
 // At most this many corners to a face.
 const MOST: usize = 16;
 
-// What stands in a place that holds no corner.
-pub(crate) const ORIGIN: Corner = Corner {
-    at: Post { x: 0, y: 0 },
-};
-
 // The corner with this number.
 pub(crate) fn corner_at(corners: &[Corner], number: u16) -> Corner
     ensures { point result ≡ spot (points corners.now) number }
 {
-    corners.get(usize::from(number)).copied().unwrap_or(ORIGIN)
+    corners.get(usize::from(number)).copied().unwrap_or(Corner::ORIGIN)
 }
 
 // Whether the first two corners of a round are different points, and all others lie strictly left of the line from the first to the second.
@@ -43,7 +38,7 @@ fn twice_round(corners: &[Corner], face: &[u16]) -> [Corner; 32]
     requires { length face.now ≤ 16 }
     ensures { take (length face.now + length face.now) (points result) ≡ ring (points corners.now) face.now }
 {
-    let mut ring = [ORIGIN; 32];
+    let mut ring = [Corner::ORIGIN; 32];
     for (k, number) in face.iter().enumerate() {
         let corner = corner_at(corners, *number);
         ring[k] = corner;

@@ -6,7 +6,7 @@ ghost use Rattle.polygon.specs.Plans.{nothing, short, opened, planned, answered}
 ghost use Rattle.polygon.specs.Understood.{spaces, Understood};
 
 use crate::chains::Chains;
-use crate::convexity::{ORIGIN, check_faces};
+use crate::convexity::check_faces;
 use crate::counts::Counts;
 use crate::doorways::list_doorways;
 use crate::edges::list_edges;
@@ -70,7 +70,7 @@ fn clear(doorways: &mut [Passage], corners: &mut [Corner], numbers: &mut [u16])
     ensures numbers { numbers.new ≡ replicate (length numbers.old) 0 }
 {
     doorways.fill(Passage::NONE);
-    corners.fill(ORIGIN);
+    corners.fill(Corner::ORIGIN);
     numbers.fill(0);
 }
 

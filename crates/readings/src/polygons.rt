@@ -7,10 +7,6 @@ use polygon::counts::Counts;
 use polygon::plans::read;
 use std::process::Abort;
 
-const ORIGIN: Corner = Corner {
-    at: Post { x: 0, y: 0 },
-};
-
 const ONE_ROOM: Counts = Counts {
     rooms: 1,
     doorways: 0,
@@ -28,7 +24,7 @@ const FULL_CORNER: Corner = Corner {
 // What the reader says of a text, and the first doorway that it writes.
 fn reading(text: &[u8]) -> (Result<Counts, Refusal>, Passage) {
     let mut doorways = [Passage::NONE; 2048];
-    let mut corners = [ORIGIN; 1024];
+    let mut corners = [Corner::ORIGIN; 1024];
     let mut numbers = [0u16; 4096];
     let said = read(text, &mut doorways, &mut corners, &mut numbers);
     (said.map_err(refusal), doorways[0])
@@ -42,7 +38,7 @@ fn refused(rt: &impl Abort, text: &[u8], expected: Refusal) {
     let said = read(text, &mut doorways, &mut corners, &mut numbers).map_err(refusal);
     assert_eq!(rt; said, Err(expected), "{}", text.escape_ascii());
     assert_eq!(rt; doorways, [Passage::NONE; 2048], "{}", text.escape_ascii());
-    assert_eq!(rt; corners, [ORIGIN; 1024], "{}", text.escape_ascii());
+    assert_eq!(rt; corners, [Corner::ORIGIN; 1024], "{}", text.escape_ascii());
     assert_eq!(rt; numbers, [0; 4096], "{}", text.escape_ascii());
 }
 

@@ -1,14 +1,14 @@
 // The two plans through the public calls: read, made into a map, and asked through a table.
 use crate::plans;
 use grid::{GridMap, read};
-use visibility::refusal::Refusal;
-use visibility::table::Table;
 use stabbing::exact::Exact;
 use stabbing::memory::Memory;
 use stabbing::stabber::Stabber;
 use stabbing::wedge::Wedge;
 use std::process::Abort;
 use std::test::Fail;
+use visibility::refusal::Refusal;
+use visibility::table::Table;
 
 fn map_of(text: &[u8]) -> Result<GridMap, Fail> {
     let mut space = [7u8; 1539];
