@@ -9,6 +9,7 @@ ghost use Rattle.visibility.specs.Sights.{sight, touches};
 use crate::row::{ROOMS, Row};
 use maps::doorway::Room;
 
+// A row that is filled no more still shows what it showed, so which rows are filled is a set of its own.
 #[derive(Clone, Copy)]
 pub struct Rows {
     filled: [bool; ROOMS],
