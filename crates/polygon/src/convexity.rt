@@ -17,7 +17,10 @@ const MOST: usize = 16;
 pub(crate) fn corner_at(corners: &[Corner], number: u16) -> Corner
     ensures { point result ≡ spot (points corners.now) number }
 {
-    corners.get(usize::from(number)).copied().unwrap_or(Corner::ORIGIN)
+    corners
+        .get(usize::from(number))
+        .copied()
+        .unwrap_or(Corner::ORIGIN)
 }
 
 // Whether the first two corners of a round are different points, and all others lie strictly left of the line from the first to the second.
