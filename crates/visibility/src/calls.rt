@@ -6,6 +6,7 @@ ghost use Rattle.visibility.specs.Questions.{walks_from, asked_all};
 ghost use Rattle.visibility.specs.Sets.{none, marks};
 ghost use Rattle.visibility.specs.States.{world_of, state_of, ByGround, no_room, no_sight, no_turn, Fills, Turns};
 
+use crate::deck::Deck;
 use crate::fill::true_row;
 use crate::refusal::Refusal;
 use crate::row::DOORWAYS;
@@ -51,7 +52,8 @@ impl<M: Map, S: Stabber> Table<M, S> {
         if a >= self.map.room_count() {
             return Err(Refusal::NoSuchRoom);
         }
-        let row = true_row(&self.map, &mut self.stabber, &self.closed, a as Room);
+        let deck = Deck::new(&self.map, &self.closed);
+        let row = true_row(&deck, &mut self.stabber, a as Room);
         self.rows.fill(a as Room, row);
         Ok(row.count())
     }

@@ -7,8 +7,8 @@ ghost use Rattle.visibility.specs.Questions.{walks_from, asked_all};
 ghost use Rattle.visibility.specs.Bits.{shown, marked};
 ghost use Rattle.std.proofs.Common.{rules};
 
+use crate::deck::Deck;
 use crate::row::Row;
-use crate::search::search_from;
 use crate::visitor::Visitor;
 use maps::doorway::Room;
 use maps::map::Map;
@@ -41,15 +41,14 @@ impl<S: Stabber> Visitor<S> for Row {
 }
 
 // The row of the room a.
-pub(crate) fn true_row<M: Map, S: Stabber>(map: &M, stabber: &mut S, shut: &[bool], a: Room) -> Row
-    requires shut { length (M.Map.doorways map.now) ≤ length shut.now }
-    requires room { a < M.Map.rooms map.now }
-    ensures value { Exactly (shown result.bytes) (TrueRow (meant M.Map S.Stabber map.now stabber.old) (marks shut.now) a) }
-    ensures asked { stabber.new ≡ asked_all S.Stabber.asked stabber.old (walks_from (meant M.Map S.Stabber map.now stabber.old) (marks shut.now) a) }
+pub(crate) fn true_row<M: Map, S: Stabber>(deck: &Deck<M>, stabber: &mut S, a: Room) -> Row
+    requires { a < M.Map.rooms deck.now.map.now }
+    ensures value { Exactly (shown result.bytes) (TrueRow (meant M.Map S.Stabber deck.now.map.now stabber.old) (marks deck.now.shut.now) a) }
+    ensures asked { stabber.new ≡ asked_all S.Stabber.asked stabber.old (walks_from (meant M.Map S.Stabber deck.now.map.now stabber.old) (marks deck.now.shut.now) a) }
     ensures lets { S.Stabber.lets stabber.new ≡ S.Stabber.lets stabber.old }
 {
     let mut row = Row::new();
     row.mark(a);
-    search_from(map, stabber, &mut row, shut, a);
+    deck.search_from(stabber, &mut row, a);
     row
 }

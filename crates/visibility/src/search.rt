@@ -45,19 +45,13 @@ pub(crate) fn search<M: Map, S, V: Visitor<S>>(
     }
 }
 
-// Tells the visitor of the walks from the room a, until it has ended.
-pub(crate) fn search_from<M: Map, S, V: Visitor<S>>(
-    map: &M,
-    stabber: &mut S,
-    visitor: &mut V,
-    shut: &[bool],
-    a: Room,
-)
-    requires shut { length (M.Map.doorways map.now) ≤ length shut.now }
-    ensures lets { V.Visitor.lets stabber.new ≡ V.Visitor.lets stabber.old }
-    ensures toured { (stabber.new, visitor.new) ≡ toured V.Visitor.heard V.Visitor.told V.Visitor.ended stabber.old visitor.old (walks_from (world (M.Map.rooms map.now) (M.Map.doorways map.now) (V.Visitor.lets stabber.old)) (marks shut.now) a) }
-{
-    let deck = Deck::new(map, shut);
-    let mut trail = Trail::new(a);
-    search(&deck, stabber, visitor, &mut trail, a);
+impl<'a, M: Map> Deck<'a, M> {
+    // Tells the visitor of the walks from the room a, until it has ended.
+    pub(crate) fn search_from<S, V: Visitor<S>>(&self, stabber: &mut S, visitor: &mut V, a: Room)
+        ensures lets { V.Visitor.lets stabber.new ≡ V.Visitor.lets stabber.old }
+        ensures toured { (stabber.new, visitor.new) ≡ toured V.Visitor.heard V.Visitor.told V.Visitor.ended stabber.old visitor.old (walks_from (world (M.Map.rooms self.now.map.now) (M.Map.doorways self.now.map.now) (V.Visitor.lets stabber.old)) (marks self.now.shut.now) a) }
+    {
+        let mut trail = Trail::new(a);
+        search(self, stabber, visitor, &mut trail, a);
+    }
 }

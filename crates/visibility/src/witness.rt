@@ -7,9 +7,9 @@ ghost use Rattle.visibility.specs.States.{world_of, state_of};
 ghost use Rattle.visibility.specs.Witnesses.{leads, ahead, until, no_witness, Told, Witnessed};
 ghost use Rattle.visibility.specs.Worlds.{meant};
 
+use crate::deck::Deck;
 use crate::quest::{Found, Quest};
 use crate::refusal::Refusal;
-use crate::search::search_from;
 use crate::sightline::Sightline;
 use crate::table::Table;
 use maps::doorway::Room;
@@ -18,22 +18,20 @@ use stabbing::stabber::Sharp;
 
 // The first open walk from a to b that has a line, with that line.
 fn first_walk<M: Map, S: Sharp>(
-    map: &M,
+    deck: &Deck<M>,
     stabber: &mut S,
-    shut: &[bool],
     a: Room,
     b: Room,
 ) -> Option<Found>
-    requires shut { length (M.Map.doorways map.now) ≤ length shut.now }
-    requires room { a < M.Map.rooms map.now }
+    requires room { a < M.Map.rooms deck.now.map.now }
     requires apart { a ≢ b }
-    ensures value { Told (meant M.Map S.Stabber map.now stabber.old) (marks shut.now) a b (S.Sharp.line (asked_all S.Sharp.lined stabber.old (ahead (leads (meant M.Map S.Stabber map.now stabber.old) b) (walks_from (meant M.Map S.Stabber map.now stabber.old) (marks shut.now) a)))) result }
-    ensures short { IfSome result (λ v. length v.doors.items < M.Map.rooms map.now) }
-    ensures asked { stabber.new ≡ asked_all S.Sharp.lined stabber.old (until (leads (meant M.Map S.Stabber map.now stabber.old) b) (walks_from (meant M.Map S.Stabber map.now stabber.old) (marks shut.now) a)) }
+    ensures value { Told (meant M.Map S.Stabber deck.now.map.now stabber.old) (marks deck.now.shut.now) a b (S.Sharp.line (asked_all S.Sharp.lined stabber.old (ahead (leads (meant M.Map S.Stabber deck.now.map.now stabber.old) b) (walks_from (meant M.Map S.Stabber deck.now.map.now stabber.old) (marks deck.now.shut.now) a)))) result }
+    ensures short { IfSome result (λ v. length v.doors.items < M.Map.rooms deck.now.map.now) }
+    ensures asked { stabber.new ≡ asked_all S.Sharp.lined stabber.old (until (leads (meant M.Map S.Stabber deck.now.map.now stabber.old) b) (walks_from (meant M.Map S.Stabber deck.now.map.now stabber.old) (marks deck.now.shut.now) a)) }
     ensures lets { S.Stabber.lets stabber.new ≡ S.Stabber.lets stabber.old }
 {
     let mut quest = Quest::new(b);
-    search_from(map, stabber, &mut quest, shut, a);
+    deck.search_from(stabber, &mut quest, a);
     quest.found
 }
 
@@ -58,13 +56,8 @@ impl<M: Map, S: Sharp> Table<M, S> {
         if space.len() < rooms - 1 {
             return Err(Refusal::SpaceTooShort);
         }
-        let found = first_walk(
-            &self.map,
-            &mut self.stabber,
-            &self.closed,
-            a as Room,
-            b as Room,
-        );
+        let deck = Deck::new(&self.map, &self.closed);
+        let found = first_walk(&deck, &mut self.stabber, a as Room, b as Room);
         match found {
             Some(walk) => {
                 let doorways = walk.doors.len();

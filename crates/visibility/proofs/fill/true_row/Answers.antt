@@ -14,12 +14,12 @@ use Rattle.visibility.proofs.fill.true_row.Goals as goal
 
 pub returns : goal.returns
 returns g c =
-    let m = c.args.map.now in
+    let m = c.args.deck.now.map.now in
     let s = c.args.stabber.now in
     let lets = g.S.Stabber.lets in
     let asked = g.S.Stabber.asked in
     let w = world (g.M.Map.rooms m) (g.M.Map.doorways m) (lets s) in
-    let shut = marks c.args.shut.now in
+    let shut = marks c.args.deck.now.shut.now in
     let a = c.args.a in
     let v : Row = c.mark.new.self in
     let start : shown v.bytes ≡ with none a = c.mark.ensures.shown ∙ ap (λ (r : Numbers). with r a) c.new-row.ensures.value in
@@ -27,7 +27,7 @@ returns g c =
     let order = in_order w shut (g.met.M.Map.inside m) (g.met.S.Stabber.prefix s) (empty_let (lets s) (g.met.S.Stabber.stabbed s)) a in
     let ts = due w shut (only a) a [] [] in
     let low : (t : Trip) → In t ts → t.room / 8 < length v.bytes = λ t i.
-    let l = walk_inside w (g.met.M.Map.inside m) a t.doors t.room t.path c.requires.room (order.due t i).walk in
+    let l = walk_inside w (g.met.M.Map.inside m) a t.doors t.room t.path c.requires (order.due t i).walk in
     omega (arith, l, wide, g.met.M.Map.bounded m) in
     let all = c.search_from.ensures.toured in
     let both = toured_row lets asked g.met.S.Stabber.steady w s v ts refl low in

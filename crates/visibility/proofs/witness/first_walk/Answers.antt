@@ -10,11 +10,11 @@ use Rattle.visibility.proofs.witness.first_walk.Goals as goal
 
 pub returns : goal.returns
 returns g c =
-    let m = c.args.map.now in
+    let m = c.args.deck.now.map.now in
     let s = c.args.stabber.now in
     let lets = g.S.Stabber.lets in
     let w = world (g.M.Map.rooms m) (g.M.Map.doorways m) (lets s) in
-    let shut = marks c.args.shut.now in
+    let shut = marks c.args.deck.now.shut.now in
     let a = c.args.a in
     let fresh = c.new-quest.ensures in
     let order = in_order w shut (g.met.M.Map.inside m) (g.met.S.Stabber.prefix s) (empty_let (lets s) (g.met.S.Stabber.stabbed s)) a in
