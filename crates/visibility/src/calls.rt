@@ -6,23 +6,15 @@ ghost use Rattle.visibility.specs.Questions.{walks_from, asked_all};
 ghost use Rattle.visibility.specs.Sets.{none, marks};
 ghost use Rattle.visibility.specs.States.{world_of, state_of, ByGround, no_room, no_sight, no_turn, Fills, Turns};
 
+use crate::arrays::no_marks;
 use crate::deck::Deck;
 use crate::fill::true_row;
 use crate::refusal::Refusal;
-use crate::row::DOORWAYS;
 use crate::rows::Rows;
 use crate::table::Table;
 use maps::doorway::Room;
 use maps::map::Map;
 use stabbing::stabber::Stabber;
-
-// No mark for any doorway.
-fn no_doorways() -> [bool; DOORWAYS]
-    ensures value { marks result ≡ none }
-    ensures long { length result ≡ most_doorways }
-{
-    [false; DOORWAYS]
-}
 
 impl<M: Map, S: Stabber> Table<M, S> {
     // Every doorway is open, and no row filled.
@@ -31,7 +23,7 @@ impl<M: Map, S: Stabber> Table<M, S> {
         ensures filled { (state_of result).filled ≡ none }
         ensures owns { (result.map ≡ map) × (result.stabber ≡ stabber) }
     {
-        let closed = no_doorways();
+        let closed = no_marks();
         let rows = Rows::new();
         Table {
             map,

@@ -2,6 +2,7 @@
 ghost use Rattle.std.specs.Prelude.{◌≡◌, ◌<◌, length, replicate};
 ghost use Rattle.visibility.specs.Indexes.{Indexed, entered_in};
 
+use crate::arrays::all_of;
 use crate::row::{DOORWAYS, ROOMS};
 use maps::doorway::{Doorway, Room};
 use maps::map::Map;
@@ -18,20 +19,6 @@ pub(crate) struct Next {
 pub(crate) struct Index {
     pub first: [usize; ROOMS],
     pub next: [Next; DOORWAYS],
-}
-
-// The number n for each room.
-fn for_rooms(n: usize) -> [usize; ROOMS]
-    ensures { result ≡ replicate 256 n }
-{
-    [n; ROOMS]
-}
-
-// A place for each doorway.
-fn for_doorways() -> [Next; DOORWAYS]
-    ensures { length result ≡ 2048 }
-{
-    [Next { near: 0, far: 0 }; DOORWAYS]
 }
 
 impl Index {
@@ -54,8 +41,8 @@ impl Index {
         ensures { Indexed (M.Map.doorways map.now) result }
     {
         let count = map.doorway_count();
-        let first = for_rooms(count);
-        let next = for_doorways();
+        let first = all_of(count);
+        let next = all_of(Next { near: 0, far: 0 });
         let mut index = Index { first, next };
         for k in (0..count).rev() {
             if let Some(doorway) = map.doorway(k) {

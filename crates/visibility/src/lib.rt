@@ -1,6 +1,7 @@
 // What can be seen from where: walks, the search that fills a row, and the table.
 #![tactic(auto)]
 
+mod arrays;
 pub mod bitmap;
 pub mod call;
 pub mod calls;

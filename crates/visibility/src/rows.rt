@@ -6,6 +6,7 @@ ghost use Rattle.visibility.specs.Bits.{shown};
 ghost use Rattle.visibility.specs.Sets.{none, with, without, both, number, marks};
 ghost use Rattle.visibility.specs.Sights.{sight, touches};
 
+use crate::arrays::no_marks;
 use crate::row::{ROOMS, Row};
 use maps::doorway::Room;
 
@@ -16,20 +17,12 @@ pub struct Rows {
     rows: [Row; ROOMS],
 }
 
-// No mark for any room.
-pub(crate) fn no_rooms() -> [bool; ROOMS]
-    ensures value { marks result ≡ none }
-    ensures long { length result ≡ most_rooms }
-{
-    [false; ROOMS]
-}
-
 impl Rows {
     // No row is filled.
     pub fn new() -> Rows
         ensures { marks result.filled ≡ none }
     {
-        let filled = no_rooms();
+        let filled = no_marks();
         Rows {
             filled,
             rows: [Row::new(); ROOMS],

@@ -3,8 +3,8 @@ ghost use Rattle.std.specs.Prelude.{◌≡◌, ℕ, ◌<◌, List, [], ◌∷◌
 ghost use Rattle.plane.specs.declared.quad.Quad.{Quad};
 ghost use Rattle.visibility.specs.Sets.{marks, only};
 
+use crate::arrays::no_marks;
 use crate::row::ROOMS;
-use crate::rows::no_rooms;
 use arrayvec::ArrayVec;
 use maps::doorway::Room;
 use plane::quad::Quad;
@@ -23,7 +23,7 @@ impl Trail {
         ensures entered { (marks result.entered ≡ only a) × (length result.entered ≡ 256) }
         ensures walk { (result.doors.items ≡ []) × (result.path.items ≡ []) }
     {
-        let mut entered = no_rooms();
+        let mut entered = no_marks();
         entered[a as usize] = true;
         Trail {
             entered,

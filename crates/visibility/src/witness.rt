@@ -17,12 +17,7 @@ use maps::map::Map;
 use stabbing::stabber::Sharp;
 
 // The first open walk from a to b that has a line, with that line.
-fn first_walk<M: Map, S: Sharp>(
-    deck: &Deck<M>,
-    stabber: &mut S,
-    a: Room,
-    b: Room,
-) -> Option<Found>
+fn first_walk<M: Map, S: Sharp>(deck: &Deck<M>, stabber: &mut S, a: Room, b: Room) -> Option<Found>
     requires room { a < M.Map.rooms deck.now.map.now }
     requires apart { a ≢ b }
     ensures value { Told (meant M.Map S.Stabber deck.now.map.now stabber.old) (marks deck.now.shut.now) a b (S.Sharp.line (asked_all S.Sharp.lined stabber.old (ahead (leads (meant M.Map S.Stabber deck.now.map.now stabber.old) b) (walks_from (meant M.Map S.Stabber deck.now.map.now stabber.old) (marks deck.now.shut.now) a)))) result }

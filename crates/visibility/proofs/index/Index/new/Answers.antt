@@ -1,5 +1,7 @@
-use Rattle.std.proofs.Common.{◌≡◌, ℕ, ◌+◌, ◌-◌, replicate, sym, ap, ◌∙◌, subst, arith}
+use Rattle.std.proofs.Common.{◌≡◌, ℕ, ◌+◌, ◌-◌, length, replicate, sym, ap, ◌∙◌, subst, arith}
+use Rattle.std.proofs.lemmas.List.{length-replicate}
 use Rattle.visibility.specs.declared.index.Index.{Index}
+use Rattle.visibility.specs.declared.index.Next.{Next}
 use Rattle.visibility.proofs.Indexing.{Entered, entered_none, entered_more, entered_all}
 use Rattle.visibility.proofs.Steps.{all_nth}
 use Rattle.visibility.proofs.index.Index.new.Goals as goal
@@ -7,9 +9,10 @@ use Rattle.visibility.proofs.index.Index.new.Goals as goal
 pub loop-k-init : goal.loop-k-init
 loop-k-init g c =
     let ds = g.M.Map.doorways c.args.map.now in
-    let x : Index = record { first = c.for_rooms-first.result; next = c.for_doorways-next.result } in
+    let blank : Next = record { near = 0; far = 0 } in
+    let x : Index = record { first = c.all_of-first.result; next = c.all_of-next.result } in
     subst (λ (m : ℕ). Entered ds m x) (sym c.doorway_count-count.ensures)
-    (entered_none ds x (c.for_rooms-first.ensures ∙ ap (replicate 256) c.doorway_count-count.ensures) c.for_doorways-next.ensures)
+    (entered_none ds x (c.all_of-first.ensures ∙ ap (replicate 256) c.doorway_count-count.ensures) (ap length c.all_of-next.ensures ∙ length-replicate 2048 blank))
 
 pub loop-k-preserved-in-Some : goal.loop-k-preserved-in-Some
 loop-k-preserved-in-Some g c =
