@@ -59,6 +59,7 @@ fn is_convex(corners: &[Corner], face: &[u16]) -> bool
         return false;
     }
     let ring = twice_round(corners, face);
+    // By place: `all` over the places or over `windows(n)` left the result open.
     for i in 0..n {
         if !is_clear(&ring[i..i + n]) {
             return false;

@@ -64,6 +64,7 @@ impl<'a> Doorways<'a> {
         requires { F.IsAlwaysCallable ask }
         ensures { (f : Point → Option Coefficients) → ((p : _) (line : Option _) → F.post ask p line → option_map coefficients line ≡ f (place p)) → option_map coefficients result ≡ first_answer f (posts self.entry.list.now) }
     {
+        // Not `find_map`: a closure is not told that each element is a crossing, which `ends` asks.
         for doorway in self.list {
             let at = ends(doorway);
             let found = ask(at.left).or_else(|| ask(at.right));

@@ -65,6 +65,7 @@ impl Doorways<'_> {
         if rest.list.is_empty() {
             return None;
         }
+        // Not `or_else`: after the call nothing is known of a closure that holds the doorways.
         match self.from_right_posts(front) {
             None => rest.first_at_post(|p| self.from_post(p)),
             found => found,

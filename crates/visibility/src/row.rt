@@ -58,6 +58,7 @@ impl Row {
     pub fn count(&self) -> usize
         ensures { result ≡ number most_rooms (shown self.now.bytes) }
     {
+        // A chain did not prove: what its closure's call of `shows` returns is not found.
         let mut count = 0;
         for room in 0..ROOMS {
             if self.shows(room as Room) {

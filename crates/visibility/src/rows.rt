@@ -66,6 +66,7 @@ impl Rows {
         ensures filled { (a : ℕ) → a < n → marks self.new.filled a ≡ without (marks self.old.filled) (touches (sight self.old.rows) x y) a }
         ensures rows { self.new.rows ≡ self.old.rows }
     {
+        // By number, since the test reads the marks that the loop clears.
         let mut count = 0;
         for a in 0..n {
             if self.is_touched(a as Room, x, y) {

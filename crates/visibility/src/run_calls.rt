@@ -29,6 +29,7 @@ pub fn run_calls<M: Map, S: Stabber>(
 {
     let mut table = Table::new(map, stabber);
     let count = calls.len().min(answers.len());
+    // With `zip` over `iter_mut` the answers are lost to the proof once they are written.
     for (i, call) in calls[..count].iter().enumerate() {
         answers[i] = table.answer(*call);
     }

@@ -26,6 +26,7 @@ pub(crate) fn search<M: Map, S, V: Visitor<S>>(
     ensures lets { V.Visitor.lets stabber.new ≡ V.Visitor.lets stabber.old }
     ensures toured { (stabber.new, visitor.new) ≡ toured V.Visitor.heard V.Visitor.told V.Visitor.ended stabber.old visitor.old (due (world (M.Map.rooms deck.now.map.now) (M.Map.doorways deck.now.map.now) (V.Visitor.lets stabber.old)) (marks deck.now.shut.now) (marks trail.old.entered) here trail.old.doors.items trail.old.path.items) }
 {
+    // The deck says which doorway comes next; the number past the last one ends the loop.
     let count = deck.map.doorway_count();
     let mut k = deck.begin(here);
     while k < count {
