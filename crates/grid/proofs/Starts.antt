@@ -1,6 +1,5 @@
 -- The start of a text that begins with the heading.
-use Rattle.std.proofs.Common.{◌≡◌, ℕ, ◌-◌, ◌<◌, ◌≤◌, Bool, true, false, cond, ◌&&◌, eqb, leb, ◌⊎◌, List, [], ◌∷◌, length, get_or, take, drop, Ok, Err, Result, sym, refl, ap, ◌∙◌, inl, inr, arith}
-use Rattle.std.proofs.lemmas.List.{take_rest}
+use Rattle.std.proofs.Common.{◌≡◌, ℕ, ◌<◌, ◌≤◌, Bool, true, false, cond, ◌&&◌, eqb, leb, ◌⊎◌, List, [], ◌∷◌, length, get_or, drop, Ok, Err, Result, sym, refl, ◌∙◌, inl, inr, arith}
 use Rattle.std.proofs.lemmas.Bool.{both_ways, le-leb, eq-eqb, eqb-true, ne_eqb, and_from, and_parts, cond-true, cond-false}
 use Rattle.text.specs.declared.faults.Fault.{Fault}
 use Rattle.text.specs.declared.faults.Ground.TheVariants.{Early, Heading}
@@ -18,9 +17,6 @@ module _ (t : List ℕ) (long : 2 ≤ length t) (first : get_or t 0 0 ≡ 80) (s
   headed_is =
       cond-true _ (spaced 2 (drop 2 t)) (Err (fault Heading 0))
       (and_from (leb 2 (length t)) (eqb (get_or t 0 0) 80 && eqb (get_or t 1 0) 49) (le-leb 2 (length t) long) (and_from (eqb (get_or t 0 0) 80) (eqb (get_or t 1 0) 49) (eq-eqb (get_or t 0 0) 80 first) (eq-eqb (get_or t 1 0) 49 second)))
-
-  pub heading_is : (r : Result ℕ Fault) → r ≡ spaced 2 (take (length t - 2) (drop 2 t)) → r ≡ headed t
-  heading_is r e = e ∙ ap (spaced 2) (take_rest t 2) ∙ sym headed_is
 
 -- a heading that is read stands there, with white space behind it
 spaced_was : (bs : List ℕ) (p : ℕ) → spaced 2 bs ≡ Ok p → (p ≡ 2) × Ends bs × (0 < length bs)

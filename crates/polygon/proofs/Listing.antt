@@ -1,6 +1,6 @@
 -- Edges and doorways listed one by one.
 use Rattle.std.proofs.Common.{◌≡◌, ℕ, zero, suc, ◌+◌, ◌<◌, ◌≤◌, ltb, List, [], ◌∷◌, ◌++◌, length, get_or, take, drop, set, Some, Option, sym, refl, ap, ◌∙◌, subst, add-one, arith, length-append}
-use Rattle.std.proofs.lemmas.List.{append_assoc, append-nil, at_drop_more, at_drop_all, length-take, length-drop, drop_more}
+use Rattle.std.proofs.lemmas.List.{append_assoc, at_drop_more, length-take, length-drop, drop_more}
 use Rattle.std.proofs.Math.Seq.{set-append_seam}
 use Rattle.std.proofs.lemmas.Bool.{cond-true, cond-false, lt-ltb, le-ltb}
 use Rattle.plane.specs.Separation.{Point}
@@ -39,9 +39,6 @@ module _ (f : ℕ) (ss rest face behind : List ℕ) (old new : List Edge) (here 
   faces_many =
       let s = get_or ss f 0 in
       omega (arith, ap length told, length-append old (edges_to face f (length face)), face_edges face f (length face), ap length here, ap length later, length-take s rest, length-drop s rest)
-
-pub faces_end : (f : ℕ) (ss rest : List ℕ) (row all : List Edge) → length ss ≤ f → row ++ all_edges f (drop f ss) rest ≡ all → row ≡ all
-faces_end f ss rest row all h inv = sym (append-nil row) ∙ ap (λ l. row ++ l) (sym (at_drop_all (λ l. all_edges f l rest) ss f h)) ∙ inv
 
 module _ (ps : List Point) (es : List Edge) where
   pub doors_none : doorways ps es 0 ≡ []

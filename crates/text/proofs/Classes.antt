@@ -1,5 +1,5 @@
 -- Each kind of byte has its class, and each class its kind of byte.
-use Rattle.std.proofs.Common.{◌≡◌, ℕ, ◌-◌, ◌<◌, true, false, ◌⊎◌, refl, arith}
+use Rattle.std.proofs.Common.{◌≡◌, ℕ, ◌-◌, true, false, ◌⊎◌, arith}
 use Rattle.std.proofs.lemmas.Bool.Decides.{nat_tests}
 use Rattle.text.specs.declared.bytes.Class.TheVariants.{Blank, Minus, Digit, Other}
 use Rattle.text.specs.Bytes.{White, Decimal, white, class}
@@ -9,15 +9,6 @@ class_white b h = grind (arith, nat_tests)
 
 pub class_decimal : (b : ℕ) → Decimal b → class b ≡ Digit (b - 48)
 class_decimal b h = grind (arith, nat_tests)
-
-pub class_minus : class 45 ≡ Minus
-class_minus = refl
-
-pub class_other : (b : ℕ) → (White b → ⊥) → (Decimal b → ⊥) → (b ≡ 45 → ⊥) → class b ≡ Other
-class_other b w d m = grind (arith, nat_tests)
-
-pub digit_small : (b d : ℕ) → class b ≡ Digit d → d < 10
-digit_small b d e = grind (arith, nat_tests)
 
 pub white_true : (b : ℕ) → White b → white b ≡ true
 white_true b h = grind (arith, nat_tests)

@@ -1,16 +1,12 @@
 -- A digit within a number, and what it keeps.
-use Rattle.std.proofs.Common.{◌≡◌, ℕ, ◌+◌, ◌*◌, ◌^◌, ◌<◌, ◌≤◌, Bool, sym, ◌∙◌, subst, pow-suc, add-one, arith}
+use Rattle.std.proofs.Common.{◌≡◌, ℕ, ◌+◌, ◌*◌, ◌^◌, ◌<◌, ◌≤◌, Bool, pow-suc, add-one, arith}
 use Rattle.std.proofs.lemmas.Bool.{lt-ltb, le-ltb, cond-true, cond-false}
-use Rattle.text.specs.declared.bytes.Class.{Class}
 use Rattle.text.specs.declared.bytes.Class.TheVariants.{Digit}
 use Rattle.text.specs.declared.lexing.Number.{Number}
-use Rattle.text.specs.declared.lexing.State.{State}
 use Rattle.text.specs.declared.lexing.State.TheVariants.{Digits}
 use Rattle.text.specs.declared.faults.Ground.TheVariants.{Long}
 use Rattle.text.specs.Faults.{fault}
-use Rattle.text.specs.Bytes.{class}
-use Rattle.text.specs.Turns.{on, bad, turn, extended, Sound}
-use Rattle.text.proofs.Classes.{digit_small}
+use Rattle.text.specs.Turns.{on, bad, turn, extended}
 
 pub grown : (v k d : ℕ) → v < 10 ^ k → d < 10 → v * 10 + d < 10 ^ (k + 1)
 grown v k d h e = rw (add-one, pow-suc) (omega arith)
@@ -21,12 +17,3 @@ turn_digit s at n k d h = cond-true _ _ _ (lt-ltb k 6 h)
 
 pub turn_long : (s : Bool) (at : ℕ) (n : Number) (k d : ℕ) → 6 ≤ k → turn s at (Digits n k) (Digit d) ≡ bad (fault Long n.start)
 turn_long s at n k d h = cond-false _ _ _ (le-ltb k 6 h)
-
-module _ (s : Bool) (at : ℕ) (st : State) (c : Class) (n : Number) (k d : ℕ) (is : st ≡ Digits n k) (byte : Digit d ≡ c) where
-  pub turn_more : k < 6 → turn s at st c ≡ on (Digits (extended n d) (k + 1))
-  turn_more h = (λ i. turn s at (is i) (sym byte i)) ∙ turn_digit s at n k d h
-
-  pub sound_more : (b : ℕ) → c ≡ class b → k < 6 → Sound st → Sound (Digits (extended n d) (k + 1))
-  sound_more b e h sound =
-      let old : Sound (Digits n k) = subst Sound is sound in
-      (omega arith, grown n.magnitude k d old.1 (digit_small b d (sym (byte ∙ e))))
