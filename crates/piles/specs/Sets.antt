@@ -1,8 +1,10 @@
 -- The paths that the piles let through.
 --   lets_of p    the paths that the pile p lets through
 --   is_sharp p   whether the pile p answers lines
-use Rattle.std.specs.Prelude.{Bool, true, false, ◌&&◌, List, is_some}
+--   says a h s   what a stabber that stands as s answers to any paths, one after the other; a is its line for a path, h how it then stands
+use Rattle.std.specs.Prelude.{Bool, true, false, ◌&&◌, List, [], ◌∷◌, is_some, Option}
 use Rattle.plane.specs.declared.quad.Quad.{Quad}
+use Rattle.plane.specs.Separation.{Coefficients}
 use Rattle.stabbing.specs.Exact.{exact_line}
 use Rattle.stabbing.specs.Wedge.{wedge_lets}
 use Rattle.piles.specs.declared.pile.Pile.{Pile}
@@ -25,3 +27,7 @@ is_sharp BothWedgeExact = true
 is_sharp MemoryBothWedgeExact = true
 is_sharp BothWedgeMemoryExact = true
 is_sharp MemoryMemoryExact = true
+
+abbrev pub says : {S : Type 0} → (S → List Quad → Option Coefficients) → (S → List Quad → S) → S → List (List Quad) → List (Option Coefficients)
+says a h s [] = []
+says a h s (p ∷ ps) = a s p ∷ says a h (h s p) ps

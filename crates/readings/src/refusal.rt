@@ -2,8 +2,8 @@
 use text::Fault;
 
 // Its number, its layer and its place.
-pub type Refusal = (u8, u8, usize);
+pub(crate) type Refusal = (u8, u8, usize);
 
-pub fn refusal(fault: Fault) -> Refusal {
+pub(crate) fn refusal(fault: Fault) -> Refusal {
     (fault.number(), fault.layer(), fault.place)
 }
