@@ -1,5 +1,5 @@
 -- The value of a line at a point fits 64 bits, as it is computed from numbers of 32.
-use Rattle.std.proofs.Common.{◌≡◌, ◌≤◌, ℤ, nat_abs, ◌+ℤ◌, ◌*ℤ◌, arith, w32, w64, SFits, to_z, of_z}
+use Rattle.std.proofs.Common.{◌≡◌, ◌≤◌, ℤ, nat_abs, ◌+ℤ◌, ◌*ℤ◌, arith, w32, w64, SFits, to_z, of_z, pos}
 use Rattle.std.proofs.lemmas.Int.{ints, to_z-of_z}
 use Rattle.plane.proofs.Products.{product_within}
 
@@ -32,3 +32,11 @@ value_fits a b c x y ha hb hc x32 y32 =
     let both : SFits w64 (a *ℤ x +ℤ b *ℤ y) = omega (arith, ints, across, upward) in
     let all : SFits w64 (a *ℤ x +ℤ b *ℤ y +ℤ c) = omega (arith, ints, across, upward, hc) in
     (simp to_z-of_z both, simp to_z-of_z all, simp to_z-of_z)
+
+-- the first sum alone, and the second, where the numbers follow from the sum
+pub sum_fits : (a b x y : ℤ) → nat_abs a ≤ 20000 → nat_abs b ≤ 20000 → SFits w32 x → SFits w32 y → SFits w64 (times a x +ℤ times b y)
+sum_fits a b x y ha hb x32 y32 = (value_fits a b (pos 0) x y ha hb (omega arith) x32 y32).0
+
+pub sums_fit : (a b c x y : ℤ) → nat_abs a ≤ 20000 → nat_abs b ≤ 20000 → nat_abs c ≤ 200000000 → SFits w32 x → SFits w32 y
+    → SFits w64 (to_z w64 (of_z w64 (times a x +ℤ times b y)) +ℤ wide c)
+sums_fit a b c x y ha hb hc x32 y32 = (value_fits a b c x y ha hb hc x32 y32).1
