@@ -1,7 +1,9 @@
 -- A refuted post has no line, and where each left post is refuted, the path has none: if any line separates the path, then
 -- so does one through a left post.
-use Rattle.std.proofs.Common.{◌≡◌, ℕ, Bool, true, false, cond, List, [], ◌∷◌, Some, None, Option, refl, arith}
+use Rattle.std.proofs.Common.{◌≡◌, ℕ, ◌<◌, ◌≤◌, Bool, true, false, cond, List, [], ◌∷◌, length, get_or, take, Some, None, Option, refl, subst, arith}
 use Rattle.std.specs.List.{AllByRecursion}
+use Rattle.std.proofs.ByRecursion.{All-get_or}
+use Rattle.std.proofs.lemmas.List.{get_or-take, length-take-le}
 use Rattle.std.proofs.lemmas.Bool.Decides.{not_from_Decides}
 use Rattle.plane.specs.declared.quad.Quad.{Quad}
 use Rattle.plane.specs.First.{first}
@@ -53,3 +55,9 @@ all_refuted_none (q ∷ p) h all =
       | None ↦ λ _. refl
       | Some l ↦ λ e. absurd (no_line (q ∷ p) l (λ f. let z : ◌≡◌ {A = ℕ} 0 1 = cc in omega arith) h all e)
     ] refl
+
+-- what holds of each element of a front holds at its places
+pub in_front : {X : Type 0} (P : X → Type 0) (xs : List X) (n i : ℕ) (d : X) → i < n → n ≤ length xs →
+    AllByRecursion P (take n xs) → P (get_or xs i d)
+in_front P xs n i d h k all =
+    subst P (get_or-take n xs i d h) (All-get_or P (take n xs) i d (omega (arith, length-take-le n xs k)) all)

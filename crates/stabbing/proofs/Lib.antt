@@ -4,3 +4,7 @@ pub mod HalfPlanes
 pub mod Spokes
 pub mod Hopeless
 pub mod Asks
+pub mod Scan
+pub mod ByPost
+pub mod Starts
+pub mod Windows

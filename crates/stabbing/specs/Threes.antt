@@ -49,7 +49,7 @@ all_stabbed_decides ps = Decides-by_and (λ w. is_some (exact_line w)) (λ w. Pa
 
 -- by length
 module _ (p : List Quad) where
-  threes_short : length p < 3 → threes p ≡ p ∷ []
+  pub threes_short : length p < 3 → threes p ≡ p ∷ []
   threes_short h = rw (lt-ltb (length p) 3 h) refl
 
   pub stabbed_short : length p < 3 → all_stabbed (threes p) ≡ is_some (exact_line p)
