@@ -6,14 +6,13 @@ use crate::index::Index;
 use maps::doorway::Room;
 use maps::map::Map;
 
-// A map, which of its doorways are shut, and where to look for the doorways of each room.
+// A map, and which of its doorways are shut. Where to look for the doorways of each room says an index, which is lent beside it: to move
+// one costs as much as to make one.
 #[derive(Drop)]
 pub(crate) struct Deck<'a, M: Map> {
     pub map: &'a M,
     pub shut: &'a [bool],
-    pub index: Index,
     ghost long: { length (M.Map.doorways map.now) ≤ length shut.now },
-    ghost indexed: { Indexed (M.Map.doorways map.now) index },
 }
 
 impl<'a, M: Map> Deck<'a, M> {
@@ -21,25 +20,26 @@ impl<'a, M: Map> Deck<'a, M> {
         requires { length (M.Map.doorways map.now) ≤ length shut.now }
         ensures { (result.map ≡ map.entry) × (result.shut ≡ shut.entry) }
     {
-        let index = Index::new(map);
-        Deck { map, shut, index }
+        Deck { map, shut }
     }
 
     // No doorway before this one has a side in the room.
-    pub(crate) fn begin(&self, here: Room) -> usize
+    pub(crate) fn begin(&self, index: &Index, here: Room) -> usize
+        requires { Indexed (M.Map.doorways self.now.map.now) index.now }
         ensures { Passed (M.Map.doorways self.now.map.now) here 0 result }
     {
-        self.index.first[here as usize]
+        index.first[here as usize]
     }
 
     // No doorway after k and before this one has a side in the room.
-    pub(crate) fn after(&self, here: Room, k: usize) -> usize
-        requires { k < length (M.Map.doorways self.now.map.now) }
+    pub(crate) fn after(&self, index: &Index, here: Room, k: usize) -> usize
+        requires index { Indexed (M.Map.doorways self.now.map.now) index.now }
+        requires doorway { k < length (M.Map.doorways self.now.map.now) }
         ensures { Passed (M.Map.doorways self.now.map.now) here (k + 1) result }
     {
         match self.map.doorway(k) {
-            Some(doorway) if doorway.near == here => self.index.next[k].near,
-            Some(doorway) if doorway.far == here => self.index.next[k].far,
+            Some(doorway) if doorway.near == here => index.next[k].near,
+            Some(doorway) if doorway.far == here => index.next[k].far,
             _ => k + 1,
         }
     }

@@ -44,7 +44,7 @@ search-requires g t c κs within =
     let wide : n ≤ length (set c.step.new.self.entered b true) = omega (arith, length-set c.step.new.self.entered b true, ap length c.step.ensures.entered) in
     let doors = ap length c.step.ensures.doors ∙ length-append x.doors.items (k ∷ []) in
     let path = ap length c.step.ensures.path ∙ length-append x.path.items (c.in-Some.quad ∷ []) in
-    (omega (arith, fewer, same), (within.0, (within.1.0, (within.1.1, (wide, (omega (arith, fewer, same, doors, ap length was.1, c.requires.doors), omega (arith, fewer, same, path, ap length was.2, c.requires.path)))))))
+    (omega (arith, fewer, same), (within.0, (within.1.0, (within.1.1, (wide, (omega (arith, fewer, same, doors, ap length was.1, c.requires.doors), (omega (arith, fewer, same, path, ap length was.2, c.requires.path), c.requires.index)))))))
 
 pub loop-k-preserved : goal.loop-k-preserved
 loop-k-preserved g t c =

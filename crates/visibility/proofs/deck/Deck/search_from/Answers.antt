@@ -12,4 +12,4 @@ search-requires g c =
     let free = number_le (g.M.Map.rooms m) (λ x. not (marks t.entered x)) in
     let doors = ap length c.new-trail.ensures.walk.0 in
     let path = ap length c.new-trail.ensures.walk.1 in
-    record { entered = omega (arith, few, long); doors = omega (arith, few, free, doors); path = omega (arith, few, free, path) }
+    record { entered = omega (arith, few, long); doors = omega (arith, few, free, doors); path = omega (arith, few, free, path); index = c.new-index.ensures }
