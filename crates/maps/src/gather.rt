@@ -50,30 +50,35 @@ fn doorway_of(rooms: usize, p: Passage) -> Option<Doorway>
     })
 }
 
-// The doorways that all of `from` are; nothing where some is none.
-fn gather(rooms: usize, from: &[Passage]) -> Option<ArrayVec<Doorway, MOST_DOORWAYS>>
-    requires { length from.now ≤ 2048 }
-    ensures { MatchOption result (AllByRecursion (Joins rooms) from.now → ⊥) (λ ds. AllByRecursion (Joins rooms) from.now × (map plain ds.items ≡ from.now) × (within rooms ds.items ≡ true) × (length ds.items ≤ 2048)) }
+// Puts the doorways that all of `from` are into the empty `held`; nothing where some is none. A list is lent and not answered, since a
+// full one takes 40 KiB and would be moved from place to place.
+fn gather(rooms: usize, from: &[Passage], held: &mut ArrayVec<Doorway, MOST_DOORWAYS>) -> Option<()>
+    requires { (length from.now ≤ 2048) × (held.old.items ≡ []) }
+    ensures { MatchOption result (AllByRecursion (Joins rooms) from.now → ⊥) (λ _. AllByRecursion (Joins rooms) from.now × (map plain held.new.items ≡ from.now) × (within rooms held.new.items ≡ true) × (length held.new.items ≤ 2048)) }
 {
-    let mut held = ArrayVec::new();
     for passage in from {
         held.push(doorway_of(rooms, *passage)?);
     }
-    Some(held)
+    Some(())
+}
+
+// The same of the first `count` doorways of the space, where these and `rooms` rooms make a map.
+fn fill(
+    rooms: usize,
+    count: usize,
+    space: &[Passage],
+    held: &mut ArrayVec<Doorway, MOST_DOORWAYS>,
+) -> Option<()>
+    requires { held.old.items ≡ [] }
+    ensures { MatchOption result (Fits rooms count space.now → ⊥) (λ _. Fits rooms count space.now × (map plain held.new.items ≡ take count space.now) × (within rooms held.new.items ≡ true) × (length held.new.items ≤ 2048)) }
+{
+    if rooms < 1 || rooms > MOST_ROOMS || count > MOST_DOORWAYS {
+        return None;
+    }
+    gather(rooms, space.get(..count)?, held)
 }
 
 impl Listed {
-    // The map of `rooms` rooms and the first `count` doorways of the space; nothing where these make none.
-    fn of(rooms: usize, count: usize, space: &[Passage]) -> Option<Listed>
-        ensures { MatchOption result (Fits rooms count space.now → ⊥) (λ m. Fits rooms count space.now × (m.rooms ≡ rooms) × (map plain m.held.items ≡ take count space.now)) }
-    {
-        if rooms < 1 || rooms > MOST_ROOMS || count > MOST_DOORWAYS {
-            return None;
-        }
-        let held = gather(rooms, space.get(..count)?)?;
-        Some(Listed { rooms, held })
-    }
-
     // One room and no doorway.
     fn single() -> Listed
         ensures { (result.rooms ≡ 1) × (result.held.items ≡ []) }
@@ -88,6 +93,10 @@ impl Listed {
     pub fn new(rooms: usize, count: usize, space: &[Passage]) -> Listed
         ensures { Becomes rooms count space.now result.rooms result.held.items }
     {
-        Listed::of(rooms, count, space).unwrap_or_else(|| Listed::single())
+        let mut held = ArrayVec::new();
+        if fill(rooms, count, space, &mut held).is_none() {
+            return Listed::single();
+        }
+        Listed { rooms, held }
     }
 }

@@ -30,26 +30,33 @@ fn runs(edge: Edge, u: u16, v: u16) -> bool
 }
 
 impl<'a> Chains<'a> {
-    // Chains all edges. The first that repeats an earlier one is refused.
-    pub(crate) fn of(edges: &'a [Edge]) -> Result<Chains<'a>, Fault>
+    // No edge is chained yet.
+    pub(crate) fn new(edges: &'a [Edge]) -> Chains<'a>
         requires { length edges.now ≤ 4096 }
-        ensures once { IfOk result (λ c. once edges.now (length edges.now) 0 ≡ Ok tt) }
-        ensures twice { IfErr result (λ e. once edges.now (length edges.now) 0 ≡ Err e) }
-        ensures all { IfOk result (λ c. (c.edges.now ≡ edges.now) × (c.known ≡ length edges.now)) }
+        ensures { (result.edges.now ≡ edges.now) × (result.known ≡ 0) }
     {
-        let mut chains = Chains {
+        Chains {
             edges,
             known: 0,
             heads: [None; 1024],
             nexts: [None; 4096],
-        };
-        for edge in edges {
-            if chains.find(edge.from, edge.to).is_some() {
+        }
+    }
+
+    // Chains all edges. The first that repeats an earlier one is refused.
+    pub(crate) fn link(&mut self) -> Result<(), Fault>
+        requires { self.old.known ≡ 0 }
+        ensures answer { result ≡ once self.old.edges.now (length self.old.edges.now) 0 }
+        ensures edges { self.new.edges.now ≡ self.old.edges.now }
+        ensures all { IfOk result (λ _. self.new.known ≡ length self.old.edges.now) }
+    {
+        for edge in self.edges {
+            if self.find(edge.from, edge.to).is_some() {
                 return Err(Fault::new(Ground::Edge, usize::from(edge.face)));
             }
-            chains.push();
+            self.push();
         }
-        Ok(chains)
+        Ok(())
     }
 
     // The latest edge from u to v.

@@ -1,5 +1,5 @@
 // All edges of a plan, in the order of its faces.
-ghost use Rattle.std.specs.Prelude.{◌≡◌, ◌+◌, ◌<◌, ◌≤◌, ◌++◌, length};
+ghost use Rattle.std.specs.Prelude.{[], ◌≡◌, ◌+◌, ◌<◌, ◌≤◌, ◌++◌, length};
 ghost use Rattle.arrayvec.specs.ArrayVec.{array_vec_len};
 ghost use Rattle.polygon.specs.Edges.{edge, edges_to, all_edges};
 
@@ -30,18 +30,17 @@ fn list_face(face: &[u16], f: u8, edges: &mut ArrayVec<Edge, 4096>)
     }
 }
 
-// The edges of all faces.
-pub(crate) fn list_edges(sizes: &[u8], numbers: &[u16]) -> ArrayVec<Edge, 4096>
+// Puts the edges of all faces into the empty `edges`, which is lent, since to answer the list would move it.
+pub(crate) fn list_edges(sizes: &[u8], numbers: &[u16], edges: &mut ArrayVec<Edge, 4096>)
     requires few { length sizes.now ≤ 256 }
     requires room { length numbers.now ≤ 4096 }
-    ensures { result.items ≡ all_edges 0 sizes.now numbers.now }
+    requires empty { edges.old.items ≡ [] }
+    ensures { edges.new.items ≡ all_edges 0 sizes.now numbers.now }
 {
-    let mut edges = ArrayVec::new();
     let mut rest = numbers;
     for (f, size) in sizes.iter().enumerate() {
         let (face, behind) = first_face(rest, *size);
-        list_face(face, f as u8, &mut edges);
+        list_face(face, f as u8, edges);
         rest = behind;
     }
-    edges
 }

@@ -11,6 +11,7 @@ use crate::counts::Counts;
 use crate::doorways::list_doorways;
 use crate::edges::list_edges;
 use crate::layout::read_layout;
+use arrayvec::ArrayVec;
 use maps::passage::Passage;
 use plane::corner::Corner;
 use text::{Fault, Ground};
@@ -35,8 +36,10 @@ fn open(
     ensures answer { result ≡ (opened (points corners.now) sizes.now numbers.now space.old).result }
     ensures after { space.new ≡ (opened (points corners.now) sizes.now numbers.now space.old).space }
 {
-    let edges = list_edges(sizes, numbers);
-    let chains = Chains::of(&edges)?;
+    let mut edges = ArrayVec::new();
+    list_edges(sizes, numbers, &mut edges);
+    let mut chains = Chains::new(&edges);
+    chains.link()?;
     Ok(list_doorways(corners, &chains, space))
 }
 
